@@ -1,0 +1,2 @@
+-- The daily figures. Believed: `Figures` (the new dues, margin and books of each account at a close).
+pub mod Figures

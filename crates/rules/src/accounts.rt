@@ -1,0 +1,193 @@
+// The margin rules on one account (document 01, "The margin rules"), and what a sound record is ("The ledger's words"). The figures are asked
+// of sound records alone: there every sum fits 64 bits.
+ghost use mathlib.Core.Path.{_≡_};
+ghost use mathlib.Core.Bool.{true};
+ghost use Prim.Native.Nat.{_+_};
+ghost use lib.Dec.{leb};
+ghost use lib.IntN.{pos, natAbs};
+ghost use Rattle.rules.specs.Sizes.{mostGross};
+ghost use Rattle.rules.specs.Account.{isBroker, grossOf, guaranteeLimit, accountOk, lgValue, depositOf, requiredOf, firstShortfall, nextDayNeed, secondShortfall, excessOne, excessTwo, limitOf};
+use crate::Account;
+
+pub const MOST_GUARANTEE: i64 = 1000000000000;
+
+pub const MOST_MARGIN: i64 = 8000000000000;
+
+pub const MOST_GROSS: u64 = 1000000000000000;
+
+// Whether an account of this kind is a broker F.
+pub fn is_broker(account: Account) -> bool
+    ensures { λ r. ⌜ r ≡ isBroker account ⌝ }
+{
+    let kind = account.kind;
+    whole::within(kind, 0, 0)
+}
+
+// Whether the sizes of cash and the three dues come to at most 10^15. Each is tested before it is added: no sum passes 64 bits.
+fn gross_within(cash: i64, due0: i64, due1: i64, due2: i64) -> bool
+    ensures { λ r. ⌜ r ≡ leb (natAbs cash + natAbs due0 + natAbs due1 + natAbs due2) mostGross ⌝ }
+{
+    let a = whole::size(cash);
+    let b = whole::size(due0);
+    let c = whole::size(due1);
+    let d = whole::size(due2);
+    if a > MOST_GROSS {
+        return false;
+    }
+    if b > MOST_GROSS {
+        return false;
+    }
+    if c > MOST_GROSS {
+        return false;
+    }
+    if d > MOST_GROSS {
+        return false;
+    }
+    a + b + c + d <= MOST_GROSS
+}
+
+// Whether an account's gross is in range.
+pub fn gross_ok(account: Account) -> bool
+    ensures { λ r. ⌜ r ≡ leb (grossOf account) mostGross ⌝ }
+{
+    let cash = account.cash;
+    let due0 = account.due0;
+    let due1 = account.due1;
+    let due2 = account.due2;
+    gross_within(cash, due0, due1, due2)
+}
+
+// The highest guarantee and cap of an account: an L has none.
+fn guarantee_limit(account: Account) -> i64
+    ensures { λ r. ⌜ r ≡ guaranteeLimit account ⌝ }
+{
+    if is_broker(account) {
+        MOST_GUARANTEE
+    } else {
+        0
+    }
+}
+
+// Whether an account's record is sound, whatever its eight words are.
+pub fn account_ok(account: Account) -> bool
+    ensures { λ r. ⌜ r ≡ accountOk account ⌝ }
+{
+    let kind = account.kind;
+    let guarantee = account.guarantee;
+    let cap = account.cap;
+    let margin = account.margin;
+    let limit = guarantee_limit(account);
+    if !whole::within(kind, 0, 1) {
+        return false;
+    }
+    if !whole::within(guarantee, 0, limit) {
+        return false;
+    }
+    if !whole::within(cap, 0, limit) {
+        return false;
+    }
+    if !whole::within(margin, 0, MOST_MARGIN) {
+        return false;
+    }
+    gross_ok(account)
+}
+
+// Source 001, article 17: the LG value.
+pub fn lg_value(account: Account) -> i64
+    requires { ⌜ accountOk account ≡ true ⌝ }
+    ensures { λ r. ⌜ r ≡ lgValue account ⌝ }
+{
+    let guarantee = account.guarantee;
+    let cap = account.cap;
+    whole::lower(guarantee * 99 / 100, cap)
+}
+
+// Source 001, 2(2): the deposit.
+pub fn deposit_of(account: Account) -> i64
+    requires { ⌜ accountOk account ≡ true ⌝ }
+    ensures { λ r. ⌜ r ≡ depositOf account ⌝ }
+{
+    let cash = account.cash;
+    cash + lg_value(account)
+}
+
+// Source 001, 2(14): the required margin, which may be negative.
+pub fn required_of(account: Account) -> i64
+    requires { ⌜ accountOk account ≡ true ⌝ }
+    ensures { λ r. ⌜ r ≡ requiredOf account ⌝ }
+{
+    let margin = account.margin;
+    let due0 = account.due0;
+    let due1 = account.due1;
+    let due2 = account.due2;
+    margin - due0 - due1 - due2
+}
+
+// Source 001, article 6: the first shortfall.
+pub fn first_shortfall(account: Account) -> i64
+    requires { ⌜ accountOk account ≡ true ⌝ }
+    ensures { λ r. ⌜ r ≡ firstShortfall account ⌝ }
+{
+    whole::upper(0, required_of(account) - deposit_of(account))
+}
+
+// Source 001, 2(16): the next-day need of an L.
+pub fn next_day_need(account: Account) -> i64
+    requires { ⌜ accountOk account ≡ true ⌝ }
+    ensures { λ r. ⌜ r ≡ nextDayNeed account ⌝ }
+{
+    let due0 = account.due0;
+    let due1 = account.due1;
+    if due1 < 0 {
+        return whole::upper(0, whole::below(due1) - due0);
+    }
+    0
+}
+
+// Source 001, article 6: the second shortfall.
+pub fn second_shortfall(account: Account) -> i64
+    requires { ⌜ accountOk account ≡ true ⌝ }
+    ensures { λ r. ⌜ r ≡ secondShortfall account ⌝ }
+{
+    let cash = account.cash;
+    let due0 = account.due0;
+    if is_broker(account) {
+        return whole::upper(0, whole::below(due0) - cash);
+    }
+    whole::upper(0, next_day_need(account) - cash)
+}
+
+// Source 001, article 8: excess one.
+pub fn excess_one(account: Account) -> i64
+    requires { ⌜ accountOk account ≡ true ⌝ }
+    ensures { λ r. ⌜ r ≡ excessOne account ⌝ }
+{
+    deposit_of(account) - required_of(account)
+}
+
+// Source 001, article 8: excess two, in which the LG does not count.
+pub fn excess_two(account: Account) -> i64
+    requires { ⌜ accountOk account ≡ true ⌝ }
+    ensures { λ r. ⌜ r ≡ excessTwo account ⌝ }
+{
+    let cash = account.cash;
+    let margin = account.margin;
+    let due0 = account.due0;
+    let due1 = account.due1;
+    if is_broker(account) {
+        return cash + due0 - margin;
+    }
+    cash + due1 - margin - whole::below(due0)
+}
+
+// Source 001, article 8: what may be withdrawn.
+pub fn limit_of(account: Account) -> i64
+    requires { ⌜ accountOk account ≡ true ⌝ }
+    ensures { λ r. ⌜ r ≡ limitOf account ⌝ }
+{
+    let cash = account.cash;
+    whole::upper(
+        0,
+        whole::lower(cash, whole::lower(excess_one(account), excess_two(account))),
+    )
+}

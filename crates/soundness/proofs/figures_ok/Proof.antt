@@ -1,0 +1,46 @@
+-- `figures_ok` meets its contract: four tests. Assumes nothing.
+use Rattle.whole.specs.Tests.{fails, holds}
+use borrow.Author.Needs.{needs}
+use Rattle.soundness.proofs.figures_ok.Statement.{statement}
+use Rattle.soundness.proofs.figures_ok.Tie as tie
+
+head-ok-requires : tie.Need-head-ok-requires
+head-ok-requires c κs = search needs
+
+returns : tie.Need-returns
+returns c = simp (fails (c .before .head-ok .ensures) (c .if1 .taken))
+
+products-ok-requires : tie.Need-products-ok-requires
+products-ok-requires c κs = search needs
+
+returns-2 : tie.Need-returns-2
+returns-2 c = let d = c .before .before in simp (holds (d .before .head-ok .ensures) (d .if1 .left), fails (c .before .products-ok .ensures) (c .if2 .taken))
+
+accounts-ok-requires : tie.Need-accounts-ok-requires
+accounts-ok-requires c κs = search needs
+
+returns-3 : tie.Need-returns-3
+returns-3 c =
+    let e = c .before .before in let d = e .before .before in
+    simp (holds (d .before .head-ok .ensures) (d .if1 .left), holds (e .before .products-ok .ensures) (e .if2 .left), fails (c .before .accounts-ok .ensures) (c .if3 .taken))
+
+all-positions-ok-requires : tie.Need-all-positions-ok-requires
+all-positions-ok-requires c κs = search needs
+
+returns-4 : tie.Need-returns-4
+returns-4 c =
+    let f = c .before in let e = f .before .before in let d = e .before .before in
+    simp (holds (d .before .head-ok .ensures) (d .if1 .left), holds (e .before .products-ok .ensures) (e .if2 .left), holds (f .before .accounts-ok .ensures) (f .if3 .left)) (c .all-positions-ok .ensures)
+
+pub figures-ok-spec : {M : Type 1} → statement M
+figures-ok-spec =
+    tie.close
+    (tie.spec
+    head-ok-requires
+    returns
+    products-ok-requires
+    returns-2
+    accounts-ok-requires
+    returns-3
+    all-positions-ok-requires
+    returns-4)

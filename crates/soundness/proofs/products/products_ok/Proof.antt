@@ -1,0 +1,70 @@
+-- `products_ok` meets its contract: the products before j passed. Assumes nothing.
+use Prim.Native.Nat.{ℕ, _-_, _≤_}
+use native.Mathlib.Omega.{arith}
+use mathlib.Core.Path.{_≡_, refl, sym}
+use mathlib.Core.Bool.{Bool, true}
+use mathlib.Core.List.{List}
+use lib.IntN.{ℤ}
+use Rattle.whole.specs.Below.{all}
+use Rattle.whole.specs.BelowLaws.{all-fails, all-more}
+use Rattle.whole.specs.Tests.{holds, fails}
+use Rattle.places.specs.declared.Shape.{Shape}
+use Rattle.places.specs.Place.{get}
+use Rattle.places.specs.ByAccount.{byAccount}
+use Rattle.soundness.specs.Sound.{productOk}
+use Rattle.soundness.proofs.products.products_ok.Statement.{statement}
+use Rattle.soundness.proofs.products.products_ok.Tie as tie
+
+abbrev ok : List ℤ → Shape → ℕ → Bool
+ok W s = productOk (get byAccount s W)
+
+abbrev Inv-loop : tie.InvT-loop
+Inv-loop words s p j₀ j = (j ≤ p) × (all j (ok words s) ≡ true)
+
+abbrev μ-loop : tie.MeasureT-loop
+μ-loop words s p j₀ j = p - j
+
+abbrev test : tie.Start Inv-loop μ-loop → ℕ → Bool
+test s = ok (s .args .words .now) (s .args .s)
+
+loop-holds : tie.Need-loop-holds Inv-loop μ-loop
+loop-holds c = (omega arith, refl)
+
+product-ok-requires : tie.Need-product-ok-requires Inv-loop μ-loop
+product-ok-requires c κs = (c .before .before .pre, omega arith)
+
+returns : tie.Need-returns Inv-loop μ-loop
+returns c =
+    let l = c .before .before .before in let s = l .before in
+    sym (all-fails (s .args .s .p) (test s) (l .loop .j) (omega arith) (fails (c .before .product-ok .ensures) (c .if1 .taken)))
+
+add-j : tie.Need-add-j Inv-loop μ-loop
+add-j c = omega arith
+
+loop-less : tie.Need-loop-less Inv-loop μ-loop
+loop-less c = omega arith
+
+loop-again : tie.Need-loop-again Inv-loop μ-loop
+loop-again c =
+    let l = c .before .before .before in
+    (omega arith, all-more (l .loop .j) (test (l .before)) (l .loop .inv .1) (holds (c .before .product-ok .ensures) (c .if1 .left)))
+
+returns-2 : tie.Need-returns-2 Inv-loop μ-loop
+returns-2 c =
+    let l = c .before in
+    let e : l .loop .j ≡ l .before .args .s .p = omega arith in
+    sym (rw e at (l .loop .inv .1))
+
+pub products-ok-spec : {M : Type 1} → statement M
+products-ok-spec =
+    tie.close
+    (tie.spec
+    Inv-loop
+    μ-loop
+    loop-holds
+    product-ok-requires
+    returns
+    add-j
+    loop-less
+    loop-again
+    returns-2)
