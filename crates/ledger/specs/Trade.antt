@@ -35,10 +35,15 @@ traded b s j q t g =
     (unless (positionIn g j (g (lots s j) -ℤ q) (g (book s j) -ℤ q *ℤ t)) (refuse 9)
     (does (pos 0) (tradePuts b s j q t g)))
 
+-- the trade between two accounts of the ledger, in one of its products
+abbrev pub tradeBetween : ℕ → ℕ → ℕ → ℤ → ℤ → View → Act Reply
+tradeBetween b s j q t g =
+    unless (oneOfEach (g (kind b)) (g (kind s))) (refuse 6)
+    (unless (termsOk g j q t) (refuse 8)
+    (traded b s j q t g))
+
 abbrev pub tradeRule : ℤ → ℤ → ℤ → ℤ → ℤ → Rule Reply
 tradeRule buyer seller product q t s g =
     unless (isBelow (s .n) buyer && isBelow (s .n) seller) (refuse 3)
     (unless (isBelow (s .p) product) (refuse 4)
-    (unless (oneOfEach (g (kind (natAbs buyer))) (g (kind (natAbs seller)))) (refuse 6)
-    (unless (termsOk g (natAbs product) q t) (refuse 8)
-    (traded (natAbs buyer) (natAbs seller) (natAbs product) q t g))))
+    (tradeBetween (natAbs buyer) (natAbs seller) (natAbs product) q t g))

@@ -3,13 +3,13 @@
 use mathlib.Core.Path.{_≡_, refl, sym, ap, ap₂, _∙_}
 use mathlib.Core.Logic.{_≢_}
 use mathlib.Core.List.{List, [], _∷_, _++_}
-use Prim.Native.Nat.{ℕ, zero, suc, _<_, _≤_}
+use Prim.Native.Nat.{ℕ, zero, suc, _+_, _<_, _≤_}
 use native.Mathlib.Omega.{arith}
 use lib.IntN.{ℤ, pos}
 use lib.ListN.{length, getD, set, length-set}
 use lib.Seq.{getD-set-same, getD-set-other, set-comm}
 use Rattle.places.specs.declared.Shape.{Shape}
-use Rattle.places.specs.Place.{Place, head, Has, size, Layout, Put, get, put, puts, each}
+use Rattle.places.specs.Place.{Place, head, acct, fields, Has, size, Layout, Put, get, put, puts, each}
 
 -- a list of as many words as a ledger of this shape has, with the paper's bounds on the counts
 pub record Sized (s : Shape) (W : List ℤ) : Type 0 where
@@ -44,6 +44,17 @@ module _ (L : Layout) (s : Shape) where
 
   pub head-put : (W : List ℤ) (k : ℕ) (v : ℤ) → set W k v ≡ put L s W (head k) v
   head-put W k v = ap (λ i. set W i v) (sym (L .first s k))
+
+-- words of the account a that the code comes by from where its record begins
+module _ (L : Layout) (s : Shape) (W : List ℤ) (a r : ℕ) (e : r ≡ L .at s (acct a 0)) where
+  pub row-at : (f : ℕ) → r + f ≡ L .at s (acct a f)
+  row-at f = ap (λ i. i + f) e ∙ sym (L .row s a f)
+
+  pub row-word : (f : ℕ) → getD W (r + f) (pos 0) ≡ get L s W (acct a f)
+  row-word f = ap (λ i. getD W i (pos 0)) (row-at f)
+
+  pub row-inside : (f : ℕ) → length W ≡ size s → a < s .n → f < fields → r + f < length W
+  row-inside f l h k = rw (row-at f, l) (L .inside s (acct a f) (h, k))
 
 -- ---- lists of puts
 

@@ -1,15 +1,16 @@
 -- What a sound record gives: bounds of its figures and of all that the rules compute from them, which so fit 64 bits. Assumes nothing.
 use mathlib.Core.Path.{_≡_}
+use mathlib.Core.Logic.{⊎-elim}
 use mathlib.Core.Bool.{Bool, true, false, cond, _&&_}
 use Prim.Native.Nat.{_≤_}
 use native.Mathlib.Omega.{arith}
 use lib.Dec.{leb}
-use lib.IntN.{ℤ, pos, negℤ, natAbs, _+ℤ_, _-ℤ_}
+use lib.IntN.{ℤ, pos, natAbs}
 use lib.Signed.{ltZ, _≤ℤ_}
 use borrow.Author.Tests.{leb-true}
-use Rattle.whole.specs.Number.{between, maxZ, below}
+use Rattle.whole.specs.Number.{between, below}
 use Rattle.whole.specs.Whole.{whole, facts, by}
-use Rattle.whole.specs.Tests.{both, InRange, in-range}
+use Rattle.whole.specs.Tests.{both, InRange, in-range, true-or-false}
 use Rattle.rules.specs.Sizes.{mostGuarantee, mostGross, mostMargin}
 use Rattle.rules.specs.Account.{isBroker, guaranteeLimit, grossOf, accountOk, lgValue, depositOf, requiredOf, nextDayNeed, excessOne, excessTwo, limitOf}
 use Rattle.rules.specs.ProductLaws.{at-least}
@@ -99,23 +100,19 @@ required-in a e = let i = account-facts a e in by (search whole depth 20) (omega
 
 pub need-in : (a : Account) → accountOk a ≡ true → natAbs (nextDayNeed a) ≤ 2000000000000000
 unfolding nextDayNeed below
-need-in a e = go (ltZ (a .due1) (pos 0)) (account-facts a e)
-  where
-    go : (t : Bool) → AccountIn a → natAbs (cond t (maxZ (pos 0) (maxZ (pos 0) (negℤ (a .due1)) -ℤ a .due0)) (pos 0)) ≤ 2000000000000000
-    go true i = by (search whole depth 20) (omega facts)
-    go false i = omega arith
+need-in a e =
+    let i = account-facts a e in
+    ⊎-elim (λ h. by (search whole depth 20) (omega facts)) (λ h. by (search whole depth 20) (omega facts)) (true-or-false (ltZ (a .due1) (pos 0)))
 
 pub excess-one-in : (a : Account) → accountOk a ≡ true → natAbs (excessOne a) ≤ 2009000000000000
 unfolding excessOne
 excess-one-in a e = let d = deposit-in a e in let r = required-in a e in by (search whole depth 20) (omega facts)
 
-pub excess-two-in : (a : Account) → accountOk a ≡ true → natAbs (excessTwo a) ≤ 1008000000000000
+pub excess-two-in : (a : Account) → accountOk a ≡ true → natAbs (excessTwo a) ≤ 2008000000000000
 unfolding excessTwo below
-excess-two-in a e = go (isBroker a) (account-facts a e)
-  where
-    go : (t : Bool) → AccountIn a → natAbs (cond t (a .cash +ℤ a .due0 -ℤ a .margin) (a .cash +ℤ a .due1 -ℤ a .margin -ℤ maxZ (pos 0) (negℤ (a .due0)))) ≤ 1008000000000000
-    go true i = by (search whole depth 20) (omega facts)
-    go false i = by (search whole depth 20) (omega facts)
+excess-two-in a e =
+    let i = account-facts a e in
+    ⊎-elim (λ h. by (search whole depth 20) (omega facts)) (λ h. by (search whole depth 20) (omega facts)) (true-or-false (isBroker a))
 
 pub limit-in : (a : Account) → accountOk a ≡ true → natAbs (limitOf a) ≤ mostGross
 unfolding limitOf

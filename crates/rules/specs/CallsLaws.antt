@@ -84,10 +84,21 @@ module _ (a : Account) (x : ℤ) where
       unless-both (λ t. accountOk (t .account) ≡ true) (amountOk x) _ _ (λ _. e)
       (λ _. unless-both (λ t. accountOk (t .account) ≡ true) (leb (grossOf (withCash a (a .cash +ℤ x))) mostGross) _ _ (λ _. e) (with-cash-sound a (a .cash +ℤ x) e))
 
-  -- it changes cash alone
-  pub deposited-cash : deposited a x .account ≡ withCash a (deposited a x .account .cash)
+  -- taken exactly where the amount is in range and gross stays in range
+  pub deposited-taken : amountOk x ≡ true → grossOf (withCash a (a .cash +ℤ x)) ≤ mostGross → deposited a x ≡ taken (a .cash +ℤ x) (withCash a (a .cash +ℤ x))
   unfolding deposited
-  deposited-cash =
+  deposited-taken h i = rw (h, le-leb (grossOf (withCash a (a .cash +ℤ x))) mostGross i)
+
+  pub deposited-only : deposited a x .number ≡ 0 → (amountOk x ≡ true) × (grossOf (withCash a (a .cash +ℤ x)) ≤ mostGross)
+  unfolding deposited
+  deposited-only =
+      unless-both (λ t. t .number ≡ 0 → (amountOk x ≡ true) × (grossOf (withCash a (a .cash +ℤ x)) ≤ mostGross)) (amountOk x) _ _ (λ _ z. absurd (omega arith))
+      (λ h. unless-both (λ t. t .number ≡ 0 → (amountOk x ≡ true) × (grossOf (withCash a (a .cash +ℤ x)) ≤ mostGross)) (leb (grossOf (withCash a (a .cash +ℤ x))) mostGross) _ _ (λ _ z. absurd (omega arith)) (λ i _. (h, leb-true _ _ i)))
+
+  -- it changes cash alone
+  pub deposited-changes : deposited a x .account ≡ withCash a (deposited a x .account .cash)
+  unfolding deposited
+  deposited-changes =
       unless-both (λ t. t .account ≡ withCash a (t .account .cash)) (amountOk x) _ _ (λ _. refl)
       (λ _. unless-both (λ t. t .account ≡ withCash a (t .account .cash)) (leb (grossOf (withCash a (a .cash +ℤ x))) mostGross) _ _ (λ _. refl) (λ _. refl))
 
@@ -135,9 +146,9 @@ module _ (a : Account) (x : ℤ) where
       (λ i. with-cash-sound a (a .cash -ℤ x) e (le-leb (grossOf (withCash a (a .cash -ℤ x))) mostGross (omega (arith, fewer h (true-le x (limitOf a) i))))))
 
   -- it changes cash alone
-  pub withdrawn-only-cash : withdrawn a x .account ≡ withCash a (withdrawn a x .account .cash)
+  pub withdrawn-changes : withdrawn a x .account ≡ withCash a (withdrawn a x .account .cash)
   unfolding withdrawn
-  withdrawn-only-cash =
+  withdrawn-changes =
       unless-both (λ t. t .account ≡ withCash a (t .account .cash)) (amountOk x) _ _ (λ _. refl)
       (λ _. unless-both (λ t. t .account ≡ withCash a (t .account .cash)) (leZ x (limitOf a)) _ _ (λ _. refl) (λ _. refl))
 
@@ -158,9 +169,9 @@ module _ (a : Account) (g c : ℤ) where
       (λ f. let i = both (guaranteeOk g) (guaranteeOk c) h in with-guarantee-sound a g c e f (i .0) (i .1)))
 
   -- it changes guarantee and cap alone
-  pub guaranteed-only : guaranteed a g c .account ≡ withGuarantee a (guaranteed a g c .account .guarantee) (guaranteed a g c .account .cap)
+  pub guaranteed-changes : guaranteed a g c .account ≡ withGuarantee a (guaranteed a g c .account .guarantee) (guaranteed a g c .account .cap)
   unfolding guaranteed
-  guaranteed-only =
+  guaranteed-changes =
       unless-both (λ t. t .account ≡ withGuarantee a (t .account .guarantee) (t .account .cap)) (guaranteeOk g && guaranteeOk c) _ _ (λ _. refl)
       (λ _. unless-both (λ t. t .account ≡ withGuarantee a (t .account .guarantee) (t .account .cap)) (isBroker a) _ _ (λ _. refl) (λ _. refl))
 

@@ -1,21 +1,22 @@
 -- The figures of one product stay within 64 bits: rates, lots at a price, the raw difference and the difference in yen. Assumes nothing.
 use mathlib.Core.Bool.{Bool, true, false, cond}
+use mathlib.Core.Logic.{⊎-elim}
 use mathlib.Core.Path.{_≡_, refl, ap}
 use Prim.Native.Nat.{ℕ, zero, suc, _+_, _*_, _^_, _≤_}
 use native.Mathlib.Nat.{mul-le-mul}
 use native.Mathlib.Omega.{arith}
 use lib.IntN.{ℤ, pos, negsuc, negℤ, natAbs, _*ℤ_}
 use lib.Signed.{leZ, _≤ℤ_}
-use Rattle.whole.specs.Number.{is, maxZ, floorDiv}
+use Rattle.whole.specs.Number.{is, maxZ}
 use Rattle.whole.specs.Signs.{nn, abs-is, le-true}
 use Rattle.whole.specs.Whole.{whole, facts, by}
-use Rattle.whole.specs.Tests.{InRange, abs-sub}
+use Rattle.whole.specs.Tests.{InRange, abs-sub, true-or-false}
 use Rattle.rules.specs.Sizes.{isYen, mostPrice, mostBook, mostLots, mostRate}
 use Rattle.rules.specs.Product.{leastRate, rateOf, marginOf, rawDifference, differenceOf}
 
 -- ---- products of two numbers
 
-abs-neg : (z : ℤ) → natAbs (negℤ z) ≡ natAbs z
+pub abs-neg : (z : ℤ) → natAbs (negℤ z) ≡ natAbs z
 abs-neg (pos zero) = refl
 abs-neg (pos (suc n)) = refl
 abs-neg (negsuc n) = refl
@@ -70,20 +71,14 @@ module _ (kind lots book price quoted : ℤ) (f : Fair kind lots book price quot
   pub quoted-cross : isYen kind ≡ false → natAbs (rawDifference lots book price *ℤ quoted) ≤ 3000000000000000000
   quoted-cross e = omega (arith, abs-mul (rawDifference lots book price) quoted, mul-le-mul (raw-cross e) (f .quoted-in))
 
-floor-ten-in : (z : ℤ) → natAbs z ≤ 15000000000000 → natAbs (floorDiv z 10) ≤ 30000000000000
-floor-ten-in z h = by (search whole depth 20) (omega facts)
-
-floor-lakh-in : (z : ℤ) → natAbs z ≤ 3000000000000000000 → natAbs (floorDiv z 100000) ≤ 30000000000000
-floor-lakh-in z h = by (search whole depth 20) (omega facts)
-
 -- a difference is at most 3 × 10^13
 pub fair-in : (kind lots book price quoted : ℤ) → Fair kind lots book price quoted → natAbs (differenceOf kind lots book price quoted) ≤ 30000000000000
 unfolding differenceOf
-fair-in kind lots book price quoted f = go (isYen kind) refl
-  where
-    go : (t : Bool) → isYen kind ≡ t → natAbs (cond t (floorDiv (rawDifference lots book price) 10) (floorDiv (rawDifference lots book price *ℤ quoted) 100000)) ≤ 30000000000000
-    go true e = floor-ten-in (rawDifference lots book price) (raw-in kind lots book price quoted f)
-    go false e = floor-lakh-in (rawDifference lots book price *ℤ quoted) (quoted-cross kind lots book price quoted f e)
+fair-in kind lots book price quoted f =
+    ⊎-elim
+    (λ e. let r = raw-in kind lots book price quoted f in by (search whole depth 20) (omega facts))
+    (λ e. let q = quoted-cross kind lots book price quoted f e in by (search whole depth 20) (omega facts))
+    (true-or-false (isYen kind))
 
 -- ---- the rate and the margin
 

@@ -4,16 +4,11 @@ ghost use mathlib.Core.Path.{_≡_};
 ghost use mathlib.Core.Bool.{true};
 ghost use Prim.Native.Nat.{_+_};
 ghost use lib.Dec.{leb};
-ghost use lib.IntN.{pos, natAbs};
+ghost use lib.IntN.{natAbs};
 ghost use Rattle.rules.specs.Sizes.{mostGross};
 ghost use Rattle.rules.specs.Account.{isBroker, grossOf, guaranteeLimit, accountOk, lgValue, depositOf, requiredOf, firstShortfall, nextDayNeed, secondShortfall, excessOne, excessTwo, limitOf};
 use crate::Account;
-
-pub const MOST_GUARANTEE: i64 = 1000000000000;
-
-pub const MOST_MARGIN: i64 = 8000000000000;
-
-pub const MOST_GROSS: u64 = 1000000000000000;
+use crate::sizes;
 
 // Whether an account of this kind is a broker F.
 pub fn is_broker(account: Account) -> bool
@@ -27,23 +22,23 @@ pub fn is_broker(account: Account) -> bool
 fn gross_within(cash: i64, due0: i64, due1: i64, due2: i64) -> bool
     ensures { λ r. ⌜ r ≡ leb (natAbs cash + natAbs due0 + natAbs due1 + natAbs due2) mostGross ⌝ }
 {
-    let a = whole::size(cash);
-    let b = whole::size(due0);
-    let c = whole::size(due1);
-    let d = whole::size(due2);
-    if a > MOST_GROSS {
+    let cash_size = whole::size(cash);
+    let due0_size = whole::size(due0);
+    let due1_size = whole::size(due1);
+    let due2_size = whole::size(due2);
+    if cash_size > sizes::MOST_GROSS {
         return false;
     }
-    if b > MOST_GROSS {
+    if due0_size > sizes::MOST_GROSS {
         return false;
     }
-    if c > MOST_GROSS {
+    if due1_size > sizes::MOST_GROSS {
         return false;
     }
-    if d > MOST_GROSS {
+    if due2_size > sizes::MOST_GROSS {
         return false;
     }
-    a + b + c + d <= MOST_GROSS
+    cash_size + due0_size + due1_size + due2_size <= sizes::MOST_GROSS
 }
 
 // Whether an account's gross is in range.
@@ -62,7 +57,7 @@ fn guarantee_limit(account: Account) -> i64
     ensures { λ r. ⌜ r ≡ guaranteeLimit account ⌝ }
 {
     if is_broker(account) {
-        MOST_GUARANTEE
+        sizes::MOST_GUARANTEE
     } else {
         0
     }
@@ -86,7 +81,7 @@ pub fn account_ok(account: Account) -> bool
     if !whole::within(cap, 0, limit) {
         return false;
     }
-    if !whole::within(margin, 0, MOST_MARGIN) {
+    if !whole::within(margin, 0, sizes::MOST_MARGIN) {
         return false;
     }
     gross_ok(account)

@@ -1,7 +1,7 @@
 // The calls on one account (document 01, "The day"), by value: what is answered, and the account after it. The lowest number that applies is
 // the answer, and a refusal gives the account back as it was.
 ghost use mathlib.Core.Path.{_≡_};
-ghost use mathlib.Core.Bool.{true, _&&_};
+ghost use mathlib.Core.Bool.{true};
 ghost use Rattle.rules.specs.Sizes.{amountOk};
 ghost use Rattle.rules.specs.Account.{accountOk};
 ghost use Rattle.rules.specs.Calls as C;
@@ -9,21 +9,20 @@ use crate::Account;
 use crate::Standing;
 use crate::Taken;
 use crate::accounts;
-
-pub const MOST_AMOUNT: i64 = 1000000000000;
+use crate::sizes;
 
 // Whether a deposit or a withdrawal may be of x yen.
 pub fn amount_ok(x: i64) -> bool
     ensures { λ r. ⌜ r ≡ amountOk x ⌝ }
 {
-    whole::within(x, 1, MOST_AMOUNT)
+    whole::within(x, 1, sizes::MOST_AMOUNT)
 }
 
 // Whether a guarantee or a cap may be of x yen.
 fn guarantee_ok(x: i64) -> bool
     ensures { λ r. ⌜ r ≡ C.guaranteeOk x ⌝ }
 {
-    whole::within(x, 0, accounts::MOST_GUARANTEE)
+    whole::within(x, 0, sizes::MOST_GUARANTEE)
 }
 
 fn with_cash(account: Account, cash: i64) -> Account

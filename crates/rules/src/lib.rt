@@ -1,4 +1,5 @@
 // The rule book on one account and one product (document 01, "The margin rules" and "The day"), by value.
+pub mod sizes; // the limits of every figure
 pub mod products; // rate, Y, margin and daily difference of one product
 pub mod accounts; // the margin rules on one account, and what a sound record is
 pub mod calls; // deposit, withdrawal, guarantee, transfer and question on one account, and the teller window

@@ -7,6 +7,7 @@ ghost use Rattle.rules.specs.Sizes.{isYen, mostPrice, mostBook, mostLots
 ghost use Rattle.rules.specs.Product.{leastRate, rateOf, yenProduct, marginOf, differenceOf};
 ghost use Rattle.rules.specs.ProductLaws.{Fair};
 use crate::Product;
+use crate::sizes;
 
 // Whether a product of this kind is a yen product.
 pub fn is_yen(kind: i64) -> bool
@@ -19,7 +20,11 @@ pub fn is_yen(kind: i64) -> bool
 pub fn most_price(kind: i64) -> i64
     ensures { λ r. ⌜ r ≡ pos (mostPrice kind) ⌝ }
 {
-    if is_yen(kind) { 5000000 } else { 200000 }
+    if is_yen(kind) {
+        sizes::MOST_YEN_PRICE
+    } else {
+        sizes::MOST_CROSS_PRICE
+    }
 }
 
 // The largest book, in size, of a product of this kind.
@@ -27,9 +32,9 @@ pub fn most_book(kind: i64) -> u64
     ensures { λ r. ⌜ r ≡ mostBook kind ⌝ }
 {
     if is_yen(kind) {
-        10000000000000
+        sizes::MOST_YEN_BOOK
     } else {
-        400000000000
+        sizes::MOST_CROSS_BOOK
     }
 }
 
@@ -66,8 +71,8 @@ pub fn margin_of(lots: i64, y: i64, rate: i64) -> i64
     requires { ⌜ pos 1 ≤ℤ rate ⌝ ∗ ⌜ rate ≤ℤ pos mostRate ⌝ }
     ensures { λ r. ⌜ r ≡ pos (marginOf lots y rate) ⌝ }
 {
-    let product = whole::size(lots) * whole::up(y) * whole::up(rate);
-    whole::ceil_lakh(product) as i64
+    let unrounded = whole::size(lots) * whole::up(y) * whole::up(rate);
+    whole::ceil_lakh(unrounded) as i64
 }
 
 // The daily difference of a position, in yen, rounded down toward minus infinity: a loss is never made smaller.

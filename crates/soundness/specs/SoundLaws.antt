@@ -125,6 +125,9 @@ sound-facts L W e = facts (shapeOf W) (get L (shapeOf W) W) (places-ok placesOk 
 pub ledger-facts : (L : Layout) (s : Shape) (W : List ℤ) → Ledger L s W → Facts s (get L s W)
 ledger-facts L s W l = facts s (get L s W) (l .places)
 
+pub facts-dues : (s : Shape) (g : View) → Facts s g → DuesIn s g
+facts-dues s g f = record { at = λ a h. account-facts (accountAt g a) (f .account a h) .due0-in }
+
 -- puts inside a footprint that keep the facts leave a sound ledger
 pub facts-kept : (L : Layout) (W : List ℤ) → sound L W ≡ true → (F : Footprint) (us : List Put) → Inside (shapeOf W) F us
     → (Facts (shapeOf W) (get L (shapeOf W) W) → Facts (shapeOf W) (get L (shapeOf W) (puts L (shapeOf W) W us))) → sound L (puts L (shapeOf W) W us) ≡ true

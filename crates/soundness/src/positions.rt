@@ -15,7 +15,7 @@ use places::Shape;
 const MOST_LOTS: u64 = 1_000_000;
 
 // Whether a position's lots are in range, and its book at most `most` in size.
-fn held_in(lots: i64, book: i64, most: u64) -> bool
+pub fn held_in(lots: i64, book: i64, most: u64) -> bool
     ensures { λ r. ⌜ r ≡ (within mostLots lots && within most book) ⌝ }
 {
     if !whole::small(lots, MOST_LOTS) {

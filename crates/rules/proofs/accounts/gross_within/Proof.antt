@@ -1,3 +1,4 @@
+-- `rules::accounts::gross_within` meets its contract: a size past the bound is past it with the others added. Assumes nothing.
 use borrow.Author.Needs.{needs}
 use Rattle.whole.specs.Whole.{whole, facts, by}
 use Rattle.rules.proofs.accounts.gross_within.Statement.{statement}

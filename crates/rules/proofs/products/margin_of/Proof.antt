@@ -28,14 +28,14 @@ size-requires c κs = search needs
 up-requires : tie.Need-up-requires
 up-requires c κs = by (search whole depth 20) (omega facts)
 
-mul-product : tie.Need-mul-product
-mul-product c = let s = lots-and-price c in omega (arith, mul-le-mul (s .0) (s .1))
+mul-unrounded : tie.Need-mul-unrounded
+mul-unrounded c = let s = lots-and-price c in omega (arith, mul-le-mul (s .0) (s .1))
 
 up-requires-2 : tie.Need-up-requires-2
 up-requires-2 c κs = by (search whole depth 20) (omega facts)
 
-mul-product-2 : tie.Need-mul-product-2
-mul-product-2 c = omega (arith, bound c)
+mul-unrounded-2 : tie.Need-mul-unrounded-2
+mul-unrounded-2 c = omega (arith, bound c)
 
 ceil-lakh-requires : tie.Need-ceil-lakh-requires
 ceil-lakh-requires c κs = omega (arith, bound c)
@@ -52,9 +52,9 @@ margin-of-spec =
     (tie.spec
     size-requires
     up-requires
-    mul-product
+    mul-unrounded
     up-requires-2
-    mul-product-2
+    mul-unrounded-2
     ceil-lakh-requires
     cast-result
     returns)

@@ -1,0 +1,94 @@
+-- `place_of` meets its contract: of the members passed, as many come before i as were counted. Assumes nothing.
+use mathlib.Core.Path.{_≡_, refl}
+use Prim.Native.Nat.{_-_, _≤_, zero-le}
+use native.Mathlib.Omega.{arith}
+use mathlib.Core.Bool.{Bool, true, false}
+use mir.Val.{boolByte}
+use borrow.Author.Needs.{needs}
+use Rattle.whole.specs.Below.{count, one-if}
+use Rattle.whole.specs.BelowLaws.{total-step, one-if-most}
+use Rattle.portions.specs.Share.{at, before, place}
+use Rattle.portions.proofs.place_of.Statement.{statement}
+use Rattle.portions.proofs.place_of.Tie as tie
+
+abbrev Inv-loop : tie.InvT-loop
+Inv-loop rest n i own ahead₀ j₀ ahead j = (j ≤ n) × (own ≡ at rest i) × (ahead ≤ j) × (ahead ≡ count j (λ k. before (at rest) k i))
+
+abbrev μ-loop : tie.MeasureT-loop
+μ-loop rest n i own ahead₀ j₀ ahead j = n - j
+
+mul-own : tie.Need-mul-own Inv-loop μ-loop
+mul-own c = search needs
+
+element-copy-out-own : tie.Need-element-copy-out-own Inv-loop μ-loop
+element-copy-out-own c = omega arith
+
+loop-holds : tie.Need-loop-holds Inv-loop μ-loop
+loop-holds c = let a = c .before .args in (zero-le, refl, zero-le, refl)
+
+mul-comes-before : tie.Need-mul-comes-before Inv-loop μ-loop
+mul-comes-before c = search needs
+
+element-copy-out-comes-before : tie.Need-element-copy-out-comes-before Inv-loop μ-loop
+element-copy-out-comes-before c = omega arith
+
+comes-before-requires : tie.Need-comes-before-requires Inv-loop μ-loop
+comes-before-requires c κs = search needs
+
+cast-ahead : tie.Need-cast-ahead Inv-loop μ-loop
+cast-ahead c = tt
+
+-- what the turn counts
+counted : (c : tie.After-comes-before Inv-loop μ-loop) →
+    let a = c .before .before .before .before .before .args in
+    boolByte (c .comes-before .result) ≡ one-if (before (at (a .remainders .now)) (c .before .before .before .loop .j) (a .i))
+unfolding before
+counted c = rw (← c .comes-before .ensures) (is-one-if (c .comes-before .result))
+  where
+    is-one-if : (t : Bool) → boolByte t ≡ one-if t
+    is-one-if true = refl
+    is-one-if false = refl
+
+add-ahead : tie.Need-add-ahead Inv-loop μ-loop
+add-ahead c =
+    let a = c .before .before .before .before .before .args in
+    omega (arith, counted c, one-if-most (before (at (a .remainders .now)) (c .before .before .before .loop .j) (a .i)))
+
+add-j : tie.Need-add-j Inv-loop μ-loop
+add-j c = omega arith
+
+loop-less : tie.Need-loop-less Inv-loop μ-loop
+loop-less c = omega arith
+
+loop-again : tie.Need-loop-again Inv-loop μ-loop
+loop-again c =
+    let a = c .before .before .before .before .before .args in
+    let l = c .before .before .before .loop in
+    let e = counted c in
+    (omega arith, refl, omega (arith, e, one-if-most (before (at (a .remainders .now)) (l .j) (a .i))), total-step (l .j) (λ k. one-if (before (at (a .remainders .now)) k (a .i))) (l .ahead) _ (l .inv .3) e)
+
+returns : tie.Need-returns Inv-loop μ-loop
+unfolding place
+returns c =
+    let l = c .before .loop in
+    let n : l .j ≡ c .before .before .before .args .n = omega arith in
+    rw n at (l .inv .3)
+
+pub place-of-spec : {M : Type 1} → statement M
+place-of-spec =
+    tie.close
+    (tie.spec
+    Inv-loop
+    μ-loop
+    mul-own
+    element-copy-out-own
+    loop-holds
+    mul-comes-before
+    element-copy-out-comes-before
+    comes-before-requires
+    cast-ahead
+    add-ahead
+    add-j
+    loop-less
+    loop-again
+    returns)

@@ -1,0 +1,57 @@
+-- The house rule on shares (document 01, "Sharing a default loss"): "layer × weight / sum, rounded down; the yen left go one each to the largest
+-- remainders, the lower account first on a tie". Nothing is sorted and nothing is handed out in turn: who gets a yen is said by counting.
+-- What a reader believes.
+use mathlib.Core.Bool.{Bool, cond, _&&_, _||_}
+use mathlib.Core.List.{List}
+use Prim.Native.Nat.{ℕ, _+_, _*_, _-_, _/_, _%_}
+use lib.Dec.{ltb, eqb}
+use lib.IntN.{ℤ, pos}
+use lib.ListN.{length, getD}
+use Rattle.whole.specs.Below.{total, count, one-if, listed}
+
+-- member j with the remainder x comes before member i with the remainder y: his is larger, or the same and his number is lower
+abbrev pub comes : ℕ → ℕ → ℕ → ℕ → Bool
+comes x j y i = ltb y x || (eqb x y && ltb j i)
+
+unfoldable pub before : (ℕ → ℕ) → ℕ → ℕ → Bool
+before remainder j i = comes (remainder j) j (remainder i) i
+
+-- how many of n members come before i
+unfoldable pub place : ℕ → (ℕ → ℕ) → ℕ → ℕ
+place n remainder i = count n (λ j. before remainder j i)
+
+-- n members, their weights, and the amount to share among them
+module _ (n : ℕ) (weight : ℕ → ℕ) (amount : ℕ) where
+  -- amount × weight / sum, rounded down
+  unfoldable pub floorOf : ℕ → ℕ
+  floorOf i = amount * weight i / total n weight
+
+  -- what the rounding leaves of amount × weight
+  unfoldable pub remainderOf : ℕ → ℕ
+  remainderOf i = amount * weight i % total n weight
+
+  -- the yen left when each member has his floor
+  unfoldable pub left : ℕ
+  left = amount - total n floorOf
+
+  -- i gets one of them if fewer members come before him than there are yen left
+  abbrev pub gets-yen : ℕ → Bool
+  gets-yen i = ltb (place n remainderOf i) left
+
+  -- a member's share; where nobody has a weight nobody gets anything
+  unfoldable pub shareOf : ℕ → ℕ
+  shareOf i = cond (eqb (total n weight) 0) 0 (floorOf i + one-if (gets-yen i))
+
+-- the same of a list of weights
+abbrev pub at : List ℕ → ℕ → ℕ
+at l i = getD l i 0
+
+abbrev pub sumOf : List ℕ → ℕ
+sumOf weights = total (length weights) (at weights)
+
+abbrev pub floors : ℕ → List ℕ → List ℤ
+floors amount weights = listed (length weights) (λ i. pos (floorOf (length weights) (at weights) amount i))
+
+-- every member's share
+abbrev pub shares : ℕ → List ℕ → List ℤ
+shares amount weights = listed (length weights) (λ i. pos (shareOf (length weights) (at weights) amount i))

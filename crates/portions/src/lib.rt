@@ -1,0 +1,183 @@
+// One amount shared by weights, to the yen: document 01, "Sharing a default loss", the house rule on shares.
+ghost use mathlib.Core.Bool.{not};
+ghost use mathlib.Core.Path.{_≡_};
+ghost use Prim.Native.Nat.{ℕ, _+_, _≤_, _<_};
+ghost use lib.IntN.{pos, natAbs, _+ℤ_};
+ghost use lib.ListN.{length, getD};
+ghost use Rattle.whole.specs.Below.{one-if, listed};
+ghost use Rattle.whole.specs.Listed.{filled};
+ghost use Rattle.whole.specs.Reps.{Each};
+ghost use Rattle.portions.specs.Share as S;
+ghost use Rattle.portions.specs.Cut.{Cuts, Seen};
+ghost use Rattle.portions.specs.Bounds.{Weights, most-amount, most-members};
+use whole::divide::mul_div;
+
+// The sum of the weights.
+pub fn sum_of(weights: &[u64]) -> u64
+    requires { ⌜ Weights (now weights) ⌝ }
+    ensures { λ r. ⌜ r ≡ S.sumOf (now (weights .entry)) ⌝ }
+{
+    let mut sum: u64 = 0;
+    let mut i: usize = 0;
+    while i < weights.len() {
+        sum += weights[i];
+        i += 1;
+    }
+    sum
+}
+
+// Writes each member's floor, and his remainder beside it; the yen left.
+fn floors(
+    amount: u64,
+    sum: u64,
+    weights: &[u64],
+    remainders: &mut [u64; 64],
+    out: &mut [i64],
+) -> u64
+    requires { ⌜ Weights (now weights) ⌝ ∗ ⌜ amount ≤ most-amount ⌝ }
+    requires { ⌜ sum ≡ S.sumOf (now weights) ⌝ ∗ ⌜ 0 < sum ⌝ ∗ ⌜ length (now out) ≡ length (now weights) ⌝ ∗ ⌜ length (now remainders) ≡ most-members ⌝ }
+    ensures { λ r. ⌜ r ≡ S.left (length (now (weights .entry))) (S.at (now (weights .entry))) amount ⌝ }
+    ensures { λ _. ⌜ now (remainders .exit) ≡ filled (length (now (weights .entry))) (S.remainderOf (length (now (weights .entry))) (S.at (now (weights .entry))) amount) (now (remainders .entry)) ⌝ }
+    ensures { λ _. ⌜ now (out .exit) ≡ S.floors amount (now (weights .entry)) ⌝ }
+{
+    let mut given: u64 = 0;
+    let mut i: usize = 0;
+    while i < weights.len() {
+        let part = mul_div(amount, weights[i], sum);
+        remainders[i] = part.remainder;
+        out[i] = part.quotient as i64;
+        given += part.quotient;
+        i += 1;
+    }
+    amount - given
+}
+
+// Whether member j, with the remainder x, comes before member i, with the remainder y: the larger remainder first, the lower account on a tie.
+pub fn comes_before(x: u64, j: usize, y: u64, i: usize) -> bool
+    ensures { λ r. ⌜ r ≡ S.comes x j y i ⌝ }
+{
+    if x == y { j < i } else { y < x }
+}
+
+// How many of n members come before member i.
+fn place_of(remainders: &[u64; 64], n: usize, i: usize) -> u64
+    requires { ⌜ n ≤ most-members ⌝ ∗ ⌜ i < n ⌝ }
+    ensures { λ r. ⌜ r ≡ S.place n (S.at (now (remainders .entry))) i ⌝ }
+{
+    let own = remainders[i];
+    let mut ahead: u64 = 0;
+    let mut j: usize = 0;
+    while j < n {
+        ahead += comes_before(remainders[j], j, own, i) as u64;
+        j += 1;
+    }
+    ahead
+}
+
+// x, or a yen more.
+fn with_yen(x: i64, more: bool) -> i64
+    requires { ⌜ natAbs x ≤ most-amount ⌝ }
+    ensures { λ r. ⌜ r ≡ x +ℤ pos (one-if more) ⌝ }
+{
+    if more { x + 1 } else { x }
+}
+
+// What is known of the cut between the members who get a yen and those who get none: the last found to get one, and the first found to get none.
+struct Cut {
+    last: u64,
+    owner: usize,
+    next: u64,
+    other: usize,
+}
+
+// Looks at member i. His place is counted only where he stands between the two.
+fn narrow(yen: u64, remainders: &[u64; 64], n: usize, i: usize, cut: Cut) -> Cut
+    requires { ⌜ n ≤ most-members ⌝ ∗ ⌜ i < n ⌝ ∗ ⌜ Seen n (S.at (now remainders)) yen i (cut .last) (cut .owner) (cut .next) (cut .other) ⌝ }
+    ensures { λ r. ⌜ Seen n (S.at (now (remainders .entry))) yen (i + 1) (r .last) (r .owner) (r .next) (r .other) ⌝ }
+{
+    let own = remainders[i];
+    if !comes_before(cut.last, cut.owner, own, i) {
+        return cut;
+    }
+    if !comes_before(own, i, cut.next, cut.other) {
+        return cut;
+    }
+    if place_of(remainders, n, i) < yen {
+        Cut {
+            last: own,
+            owner: i,
+            next: cut.next,
+            other: cut.other,
+        }
+    } else {
+        Cut {
+            last: cut.last,
+            owner: cut.owner,
+            next: own,
+            other: i,
+        }
+    }
+}
+
+// The cut, when all n members are seen. `sum` is above every remainder.
+fn cut_of(yen: u64, sum: u64, remainders: &[u64; 64], n: usize) -> Cut
+    requires { ⌜ n ≤ most-members ⌝ ∗ ⌜ ((i : ℕ) → i < n → S.at (now remainders) i < sum) ⌝ }
+    ensures { λ r. ⌜ Cuts n (S.at (now (remainders .entry))) yen (r .last) (r .owner) ⌝ }
+{
+    let mut cut = Cut {
+        last: sum,
+        owner: 0,
+        next: 0,
+        other: n,
+    };
+    let mut i: usize = 0;
+    while i < n {
+        cut = narrow(yen, remainders, n, i, cut);
+        i += 1;
+    }
+    cut
+}
+
+// Gives a yen to each member whom the last owner does not come before.
+fn hand_out(last: u64, owner: usize, remainders: &[u64; 64], out: &mut [i64])
+    requires { ⌜ length (now out) ≤ most-members ⌝ ∗ ⌜ Each most-amount (now out) ⌝ }
+    ensures { λ _. ⌜ now (out .exit) ≡ listed (length (now (out .entry))) (λ i. getD (now (out .entry)) i (pos 0) +ℤ pos (one-if (not (S.comes last owner (S.at (now (remainders .entry)) i) i)))) ⌝ }
+{
+    let mut i: usize = 0;
+    while i < out.len() {
+        out[i] = with_yen(out[i], !comes_before(last, owner, remainders[i], i));
+        i += 1;
+    }
+}
+
+// Zeros.
+fn clear(out: &mut [i64])
+    ensures { λ _. ⌜ now (out .exit) ≡ listed (length (now (out .entry))) (λ i. pos 0) ⌝ }
+{
+    let mut i: usize = 0;
+    while i < out.len() {
+        out[i] = 0;
+        i += 1;
+    }
+}
+
+// Shares an amount by weights: each word of `out` is that member's share. The amount may pass the sum of the weights; where there is nothing to share,
+// or nobody to share it, all get 0.
+pub fn share(amount: u64, weights: &[u64], out: &mut [i64])
+    requires { ⌜ Weights (now weights) ⌝ ∗ ⌜ amount ≤ most-amount ⌝ ∗ ⌜ length (now out) ≡ length (now weights) ⌝ }
+    ensures { λ _. ⌜ now (out .exit) ≡ S.shares amount (now (weights .entry)) ⌝ }
+{
+    if amount == 0 {
+        clear(out);
+        return;
+    }
+    let sum = sum_of(weights);
+    if sum == 0 {
+        clear(out);
+        return;
+    }
+    let mut remainders: [u64; 64] = [0; 64];
+    let yen = floors(amount, sum, weights, &mut remainders, out);
+    let cut = cut_of(yen, sum, &remainders, weights.len());
+    hand_out(cut.last, cut.owner, &remainders, out);
+}
