@@ -1,6 +1,8 @@
 -- 01, "Figures by hand": the numbered figures as one list. Each says what a rule's definition gives at the figure's numbers; what a figure
 -- does not name (a price, the other figures of an account) is any. A proof of one is the rule, computed. Assumes nothing.
 use mathlib.Core.Path.{_≡_, refl, ap}
+use mathlib.Core.List.{[], _∷_}
+use Prim.Native.Nat.{ℕ, _<_}
 use lib.IntN.{ℤ, pos, negℤ, _+ℤ_, _*ℤ_}
 use Rattle.whole.specs.Number.{minZ, maxZ, below, floorDiv}
 use Rattle.whole.specs.Reps.{leaf}
@@ -9,6 +11,8 @@ use Rattle.rules.specs.Product.{marginOf, rawDifference, differenceOf}
 use Rattle.rules.specs.Account.{lgValue, depositOf, requiredOf, excessOne, excessTwo, limitOf, firstShortfall, secondShortfall}
 use Rattle.rules.specs.Calls.{transferred, refusedAt, withdrawn}
 use Rattle.rules.specs.declared.Account.{Account}
+use Rattle.portions.specs.Share.{shares}
+use Rattle.shares.specs.Examples.{r11, r12-any}
 
 -- kinds: a yen product and a cross; a broker and a liquidity provider
 abbrev yen : ℤ
@@ -58,6 +62,10 @@ pub record Figures : Type 0 where
   pub R9 : (limitOf ninth ≡ pos 350000) × (limitOf (transferred ninth) ≡ pos 450000)
   -- F, cash 80,000, margin 600,000, due 0 -100,000: shortfalls 620,000 and 20,000
   pub R10 : (firstShortfall tenth ≡ pos 620000) × (secondShortfall tenth ≡ pos 20000)
+  -- weights 5, 7, 9 million, layer 10: 3, 3, 4
+  pub R11 : shares 10 (5000000 ∷ 7000000 ∷ 9000000 ∷ []) ≡ pos 3 ∷ pos 3 ∷ pos 4 ∷ []
+  -- three equal weights, layer 10: 4, 3, 3
+  pub R12 : (w : ℕ) → 0 < w → shares 10 (w ∷ w ∷ w ∷ []) ≡ pos 4 ∷ pos 3 ∷ pos 3 ∷ []
 
 -- ---- the proofs
 
@@ -90,4 +98,6 @@ figures =
       R8 = λ guarantee cap h. (eighth-limit guarantee cap h, eighth-refused guarantee cap h);
       R9 = (refl, refl);
       R10 = (refl, refl);
+      R11 = r11;
+      R12 = r12-any;
     }

@@ -9,11 +9,11 @@ use rules::calls;
 
 // ---- printing
 
-fn text(bytes: &[u8]) {
+pub fn text(bytes: &[u8]) {
     io::write_all(STDOUT_FILENO, bytes);
 }
 
-fn number(x: i64) {
+pub fn number(x: i64) {
     if x < 0 {
         text(b"-");
     }

@@ -1,5 +1,5 @@
-// Runs the code of the rule book on the figures of document 01 that concern one product or one account, "Figures by hand" first, then the
-// bounds of its ranges.
+// Runs the code of the rule book on the figures of document 01 that concern one product, one account or a default loss, "Figures by hand"
+// first, then the bounds of its ranges.
 use lines::account;
 use lines::broker;
 use lines::deposit;
@@ -15,6 +15,7 @@ use lines::withdrawal;
 use rules::products;
 
 mod lines;
+mod losses;
 
 const LEAST: i64 = -9223372036854775808;
 
@@ -293,6 +294,7 @@ fn backings() {
 fn main() {
     products_by_hand();
     accounts_by_hand();
+    losses::losses_by_hand();
     rates();
     rounding();
     full_accounts();
