@@ -7,7 +7,7 @@ use lib.IntN.{ℤ, natAbs}
 use Rattle.whole.specs.Number.{is, isBelow}
 use Rattle.whole.specs.Tests.{in-range}
 use native.Mathlib.Omega.{arith}
-use Rattle.ledger.specs.Trade.{oneOfEach}
+use Rattle.acts.specs.Trade.{oneOfEach}
 use Rattle.rules.specs.declared.Standing.{Standing}
 use Rattle.places.specs.declared.Shape.{Shape}
 use Rattle.places.specs.Place.{Layout, Put, get, puts}
@@ -18,7 +18,7 @@ use Rattle.rules.specs.Calls.{replyOf}
 use Rattle.rules.specs.declared.Reply.{Reply}
 use Rattle.rules.specs.declared.Taken.{Taken}
 use borrow.Author.Tests.{eq-eqb, ne-eqb}
-use Rattle.ledger.specs.Requests.{atAccount, whenTaken, questionAct, questionRule}
+use Rattle.acts.specs.Requests.{atAccount, whenTaken, questionAct, questionRule}
 use Rattle.rules.specs.declared.Account.{Account}
 use Prim.Native.Nat.{ℕ}
 

@@ -3,9 +3,9 @@
 ghost use mathlib.Core.Path.{_≡_};
 ghost use Rattle.places.specs.ByAccount.{byAccount};
 ghost use Rattle.soundness.specs.Perform.{perform, ask};
-ghost use Rattle.ledger.specs.Requests as Q;
-ghost use Rattle.ledger.specs.Trade as T;
-ghost use Rattle.ledger.specs.Run as R;
+ghost use Rattle.acts.specs.Requests as Q;
+ghost use Rattle.acts.specs.Trade as T;
+ghost use Rattle.acts.specs.Run as R;
 use rules::Reply;
 use rules::Standing;
 

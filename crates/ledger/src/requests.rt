@@ -10,7 +10,7 @@ ghost use Rattle.places.specs.Act.{finish};
 ghost use Rattle.soundness.specs.Sound.{accountAt};
 ghost use Rattle.soundness.specs.SoundLaws.{Ledger};
 ghost use Rattle.soundness.specs.Perform.{refuseQuestion};
-ghost use Rattle.ledger.specs.Requests as Q;
+ghost use Rattle.acts.specs.Requests as Q;
 use places::Shape;
 use rules::Reply;
 use rules::Standing;
@@ -57,21 +57,21 @@ fn put_guarantee(words: &mut [i64], s: Shape, a: usize, taken: Taken) -> Reply
     requires { ⌜ a < s .n ⌝ }
     ensures { λ r. ⌜ (r, now (words .exit)) ≡ finish byAccount s (now (words .entry)) (Q.whenTaken taken ((guarantee a ≔ taken .account .guarantee) ∷ (cap a ≔ taken .account .cap) ∷ [])) ⌝ }
 {
-    let number = taken.number;
+    let refusal = taken.number;
     let figure = taken.figure;
-    if number == 0 {
+    if refusal == 0 {
         let account = taken.account;
         let guarantee = account.guarantee;
         let cap = account.cap;
         places::put_acct(words, s, a, places::GUARANTEE, guarantee);
         places::put_acct(words, s, a, places::CAP, cap);
         return Reply {
-            number: number,
+            number: refusal,
             figure: figure,
         };
     }
     Reply {
-        number: number,
+        number: refusal,
         figure: figure,
     }
 }

@@ -12,7 +12,7 @@ ghost use Rattle.places.specs.Act.{finish};
 ghost use Rattle.soundness.specs.Sound as S;
 ghost use Rattle.soundness.specs.SoundLaws.{Ledger};
 ghost use Rattle.soundness.specs.Perform.{does};
-ghost use Rattle.ledger.specs.Run as R;
+ghost use Rattle.acts.specs.Run as R;
 use places::Shape;
 use rules::Reply;
 

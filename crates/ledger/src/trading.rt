@@ -13,7 +13,7 @@ ghost use Rattle.places.specs.ByAccount.{byAccount};
 ghost use Rattle.places.specs.Act.{finish, unless};
 ghost use Rattle.soundness.specs.SoundLaws.{Ledger};
 ghost use Rattle.soundness.specs.Perform.{refuse};
-ghost use Rattle.ledger.specs.Trade as T;
+ghost use Rattle.acts.specs.Trade as T;
 use places::Shape;
 use rules::Reply;
 

@@ -13,7 +13,7 @@ use Rattle.places.specs.Act.{Rule}
 use Rattle.places.specs.ActLaws.{ledger-of, ledger-at, performed-at, turned-down}
 use Rattle.soundness.specs.Sound.{sound, placesOk}
 use Rattle.soundness.specs.Perform.{refuseQuestion}
-use Rattle.ledger.specs.Requests.{questionRule}
+use Rattle.acts.specs.Requests.{questionRule}
 use Rattle.ledger.specs.Answers.{question-finish}
 use borrow.Author.Needs.{needs}
 use Rattle.ledger.proofs.question.Statement.{statement}

@@ -11,7 +11,7 @@ use Rattle.places.specs.Act.{Rule}
 use Rattle.places.specs.ActLaws.{ledger-of, ledger-at, performed-at, turned-down}
 use Rattle.soundness.specs.Sound.{sound, placesOk}
 use Rattle.soundness.specs.Perform.{refuse}
-use Rattle.ledger.specs.Run.{stepRule}
+use Rattle.acts.specs.Run.{stepRule}
 use borrow.Author.Needs.{needs}
 use Rattle.ledger.proofs.step.Statement.{statement}
 use Rattle.ledger.proofs.step.Tie as tie

@@ -13,7 +13,7 @@ use Rattle.places.specs.Act.{Rule, finish}
 use Rattle.places.specs.ActLaws.{ledger-of, ledger-at, performed-at, turned-down}
 use Rattle.soundness.specs.Sound.{sound, placesOk}
 use Rattle.soundness.specs.Perform.{refuse}
-use Rattle.ledger.specs.Requests.{withdrawRule}
+use Rattle.acts.specs.Requests.{withdrawRule}
 use borrow.Author.Needs.{needs}
 use Rattle.ledger.proofs.withdraw.Statement.{statement}
 use Rattle.ledger.proofs.withdraw.Tie as tie

@@ -7,7 +7,7 @@ use Rattle.places.specs.Place.{_≔_, cash}
 use Rattle.places.specs.ByAccount.{byAccount}
 use Rattle.places.specs.Act.{finish}
 use Rattle.soundness.specs.SoundLaws.{ledger-facts}
-use Rattle.ledger.specs.Requests.{whenTaken}
+use Rattle.acts.specs.Requests.{whenTaken}
 use borrow.Author.Needs.{needs}
 use Rattle.ledger.proofs.requests.withdraw_at.Statement.{statement}
 use Rattle.ledger.proofs.requests.withdraw_at.Tie as tie

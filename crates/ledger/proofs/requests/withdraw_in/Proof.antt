@@ -12,7 +12,7 @@ use Rattle.places.specs.Act.{finish}
 use Rattle.soundness.specs.Sound.{accountAt}
 use Rattle.soundness.specs.Perform.{refuse}
 use Rattle.soundness.specs.PerformLaws.{refused-as}
-use Rattle.ledger.specs.Requests.{withdrawAct}
+use Rattle.acts.specs.Requests.{withdrawAct}
 use Rattle.ledger.specs.Answers.{at-account, no-account}
 use borrow.Author.Needs.{needs}
 use Rattle.ledger.proofs.requests.withdraw_in.Statement.{statement}

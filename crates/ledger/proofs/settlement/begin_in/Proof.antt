@@ -14,7 +14,7 @@ use Rattle.places.specs.ByAccount.{byAccount}
 use Rattle.soundness.specs.Sound.{stays}
 use Rattle.soundness.specs.SoundLaws.{ledger-facts, facts-dues}
 use Rattle.soundness.specs.PerformLaws.{refused-as}
-use Rattle.ledger.specs.Run.{beginRule}
+use Rattle.acts.specs.Run.{beginRule}
 use borrow.Author.Needs.{needs}
 use Rattle.ledger.proofs.settlement.begin_in.Statement.{statement}
 use Rattle.ledger.proofs.settlement.begin_in.Tie as tie

@@ -16,7 +16,7 @@ use Rattle.places.specs.Act.{finish}
 use Rattle.soundness.specs.Sound.{turn}
 use Rattle.soundness.specs.Perform.{does}
 use Rattle.soundness.specs.PerformLaws.{refused-as}
-use Rattle.ledger.specs.Run.{stepPuts, stepRule}
+use Rattle.acts.specs.Run.{stepPuts, stepRule}
 use borrow.Author.Needs.{needs}
 use Rattle.ledger.proofs.settlement.step_in.Statement.{statement}
 use Rattle.ledger.proofs.settlement.step_in.Tie as tie

@@ -13,7 +13,7 @@ use Rattle.rules.specs.ProductLaws.{times-in, abs-neg}
 use Rattle.places.specs.Place.{View, get, put, lots, book}
 use Rattle.places.specs.ByAccount.{byAccount}
 use Rattle.soundness.specs.PerformLaws.{refused-as}
-use Rattle.ledger.specs.Trade.{positionIn, traded}
+use Rattle.acts.specs.Trade.{positionIn, traded}
 use borrow.Author.Needs.{needs}
 use Rattle.ledger.proofs.trading.trade_at.Statement.{statement}
 use Rattle.ledger.proofs.trading.trade_at.Tie as tie

@@ -13,7 +13,7 @@ use Rattle.places.specs.Place.{View, get, kind, productKind}
 use Rattle.places.specs.ByAccount.{byAccount}
 use Rattle.places.specs.Act.{finish}
 use Rattle.soundness.specs.PerformLaws.{refused-as}
-use Rattle.ledger.specs.Trade.{termsOk, oneOfEach, traded, tradeBetween}
+use Rattle.acts.specs.Trade.{termsOk, oneOfEach, traded, tradeBetween}
 use borrow.Author.Needs.{needs}
 use Rattle.ledger.proofs.trading.trade_between.Statement.{statement}
 use Rattle.ledger.proofs.trading.trade_between.Tie as tie

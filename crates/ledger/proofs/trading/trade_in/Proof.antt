@@ -11,7 +11,7 @@ use Rattle.places.specs.Place.{View, get}
 use Rattle.places.specs.ByAccount.{byAccount}
 use Rattle.places.specs.Act.{finish}
 use Rattle.soundness.specs.PerformLaws.{refused-as}
-use Rattle.ledger.specs.Trade.{tradeBetween, tradeRule}
+use Rattle.acts.specs.Trade.{tradeBetween, tradeRule}
 use borrow.Author.Needs.{needs}
 use Rattle.ledger.proofs.trading.trade_in.Statement.{statement}
 use Rattle.ledger.proofs.trading.trade_in.Tie as tie

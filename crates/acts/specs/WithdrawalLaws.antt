@@ -17,7 +17,7 @@ use Rattle.places.specs.Act.{shapeOf, unless}
 use Rattle.places.specs.ActLaws.{performed, not-performed}
 use Rattle.soundness.specs.Sound.{accountAt, sound, placesOk}
 use Rattle.soundness.specs.Perform.{replies, refuse, perform}
-use Rattle.ledger.specs.Requests.{withdrawAct, withdrawRule}
+use Rattle.acts.specs.Requests.{withdrawAct, withdrawRule}
 
 -- the record of the account that a call names
 abbrev pub named : Layout → List ℤ → ℤ → Account

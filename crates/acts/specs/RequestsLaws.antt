@@ -14,8 +14,8 @@ use Rattle.rules.specs.declared.Account.{Account}
 use Rattle.rules.specs.declared.Taken.{Taken}
 use Rattle.places.specs.Place.{Put, _≔_, cash, guarantee, cap}
 use Rattle.places.specs.PlaceLaws.{Each}
-use Rattle.ledger.specs.Requests.{whenTaken, depositAct, withdrawAct, guaranteeAct, questionAct}
-use Rattle.ledger.specs.OneAccount.{OwnPuts, InOrder, Proper}
+use Rattle.acts.specs.Requests.{whenTaken, depositAct, withdrawAct, guaranteeAct, questionAct}
+use Rattle.acts.specs.OneAccount.{OwnPuts, InOrder, Proper}
 
 -- ---- puts of cash, guarantee and cap are an account's own
 

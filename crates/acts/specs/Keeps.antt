@@ -12,14 +12,14 @@ use Rattle.soundness.specs.Sound.{turn, sound}
 use Rattle.soundness.specs.Perform.{refuse, refuseQuestion}
 use Rattle.soundness.specs.SoundLaws.{Ledger}
 use Rattle.soundness.specs.Keep.{Safe, safe-of, After, ledger-kept}
-use Rattle.ledger.specs.Requests.{depositAct, withdrawAct, guaranteeAct, questionAct, depositRule, withdrawRule, guaranteeRule, questionRule}
-use Rattle.ledger.specs.Trade.{tradeRule}
-use Rattle.ledger.specs.Run.{beginRule, stepRule}
-use Rattle.ledger.specs.OneAccount.{request-safe}
-use Rattle.ledger.specs.RequestsLaws.{deposit-proper, withdraw-proper, guarantee-proper, question-proper}
-use Rattle.ledger.specs.TradeLaws.{trading, trade-of}
-use Rattle.ledger.specs.RunLaws.{beginning, stepping, begin-of}
-use Rattle.ledger.specs.StepLaws.{step-of}
+use Rattle.acts.specs.Requests.{depositAct, withdrawAct, guaranteeAct, questionAct, depositRule, withdrawRule, guaranteeRule, questionRule}
+use Rattle.acts.specs.Trade.{tradeRule}
+use Rattle.acts.specs.Run.{beginRule, stepRule}
+use Rattle.acts.specs.OneAccount.{request-safe}
+use Rattle.acts.specs.RequestsLaws.{deposit-proper, withdraw-proper, guarantee-proper, question-proper}
+use Rattle.acts.specs.TradeLaws.{trading, trade-of}
+use Rattle.acts.specs.RunLaws.{beginning, stepping, begin-of}
+use Rattle.acts.specs.StepLaws.{step-of}
 
 module _ (L : Layout) (W : List ℤ) (e : sound L W ≡ true) where
   pub deposit-safe : (a x : ℤ) → Safe L W (depositRule a x)

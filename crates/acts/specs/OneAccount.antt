@@ -24,7 +24,7 @@ use Rattle.places.specs.Footprint.{Footprint, Inside, Differ, KeepsTo, sees, di
 use Rattle.soundness.specs.Sound.{accountAt, sound, placesOk}
 use Rattle.soundness.specs.SoundLaws.{Facts, sound-facts, facts-kept}
 use Rattle.soundness.specs.Keep.{account-same, SamePositions, held-same, balanced-same, Quiet, products-same, quiet-facts, Safe, safe-of}
-use Rattle.ledger.specs.Requests.{atAccount}
+use Rattle.acts.specs.Requests.{atAccount}
 
 -- ---- footprints
 

@@ -24,8 +24,8 @@ use Rattle.soundness.specs.Sound.{accountAt, turn, stays, sound, placesOk}
 use Rattle.soundness.specs.Perform.{replies, refuse}
 use Rattle.soundness.specs.SoundLaws.{Facts, sound-facts, facts-kept}
 use Rattle.soundness.specs.Keep.{left-at, account-same, stays-same}
-use Rattle.ledger.specs.Run.{stepPuts, stepRule}
-use Rattle.ledger.specs.RunLaws.{stepping, OffTrades, off-trades}
+use Rattle.acts.specs.Run.{stepPuts, stepRule}
+use Rattle.acts.specs.RunLaws.{stepping, OffTrades, off-trades}
 
 -- house after this step, and after each step still to come
 next-stays : (n t : ℕ) (h : ℤ) (g : View) → 1 ≤ t → t ≤ n → stays (n + 1 - t) h (t - 1) g ≡ true

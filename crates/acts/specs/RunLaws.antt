@@ -22,7 +22,7 @@ use Rattle.soundness.specs.Sound.{accountAt, turn, stays, sound, placesOk}
 use Rattle.soundness.specs.Perform.{refuse, does}
 use Rattle.soundness.specs.SoundLaws.{Facts, facts-kept}
 use Rattle.soundness.specs.Keep.{SameProducts, SamePositions, account-same, product-kept, held-same, balanced-same, stays-same}
-use Rattle.ledger.specs.Run.{beginRule}
+use Rattle.acts.specs.Run.{beginRule}
 
 -- ---- footprints
 

@@ -27,7 +27,7 @@ use Rattle.soundness.specs.SoundLaws.{Facts, facts-kept}
 use Rattle.soundness.specs.Perform.{refuse}
 use Rattle.soundness.specs.Keep.{account-same, Quiet, quiet-facts}
 use Rattle.soundness.specs.Keep.{left-at}
-use Rattle.ledger.specs.Trade.{oneOfEach, termsOk, positionIn, tradePuts, tradeRule}
+use Rattle.acts.specs.Trade.{oneOfEach, termsOk, positionIn, tradePuts, tradeRule}
 
 -- a trade puts positions alone; it sees them, the accounts' kinds, and the products
 abbrev pub TradePuts : Place → Type 0

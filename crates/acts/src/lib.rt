@@ -1,0 +1,1 @@
+// Definitions and laws alone: what each call does, in specs/.
