@@ -1,0 +1,110 @@
+-- `charge` meets its contract: the three figures are the places' words, within what `margin_of` asks. Assumes nothing.
+use mathlib.Core.Path.{_≡_, ap, _∙_}
+use Prim.Native.Nat.{_<_}
+use native.Mathlib.Omega.{arith}
+use lib.IntN.{ℤ, pos}
+use lib.ListN.{length, getD}
+use mir.Syntax.{w64}
+use mir.Val.{toZ, ofZ}
+use Rattle.whole.specs.Signs.{back, came}
+use Rattle.rules.specs.Sizes.{mostRate}
+use Rattle.rules.specs.declared.Product.{Product}
+use Rattle.rules.specs.Product.{yenProduct, rateOf, marginOf}
+use Rattle.rules.specs.ProductLaws.{rate-in, at-least, at-most}
+use Rattle.places.specs.Place.{View, get, floorMark, lots}
+use Rattle.places.specs.ByAccount.{byAccount}
+use Rattle.soundness.specs.Sound.{productAt}
+use Rattle.daily.specs.Figures.{word}
+use borrow.Author.Needs.{needs}
+use Rattle.daily.proofs.charge.Statement.{statement}
+use Rattle.daily.proofs.charge.Tie as tie
+
+abbrev g : tie.Start → View
+g s = get byAccount (s .args .s) (s .args .words .now)
+
+yen-is : (c : tie.After-yen-product) → let s = c .before .before .before .before in c .yen-product .result ≡ yenProduct (productAt (g s) (s .args .j)) (s .args .j)
+yen-is c = let s = c .before .before .before .before in c .yen-product .ensures ∙ ap (λ z. yenProduct z (s .args .j)) (c .before .before .before .product-at .ensures)
+
+-- the index of Y
+inside : (c : tie.After-yen-product) → c .yen-product .result < length (c .before .before .before .before .args .prices .now)
+inside c = let s = c .before .before .before .before in omega (arith, yen-is c, s .pre .1 .0 .at (s .args .j) (s .pre .1 .1 .1 .1) .yen-in, s .pre .1 .0 .priced)
+
+module _ (c : tie.After-margin-of-arg) where
+  abbrev y : tie.After-yen-product
+  y = c .before .before .before .before
+
+  abbrev s : tie.Start
+  s = y .before .before .before .before
+
+  abbrev rate : ℤ
+  rate = rateOf (g s (floorMark (s .args .j))) (word (s .args .rates8 .now) (s .args .j)) (word (s .args .rates104 .now) (s .args .j))
+
+  lots-is : toZ w64 (ofZ w64 (y .before .held-word .result)) ≡ g s (lots (s .args .a) (s .args .j))
+  lots-is = let w = y .before .held-word in came (w .result) (w .ok) (w .ensures)
+
+  price-is : toZ w64 (ofZ w64 (getD (s .args .prices .now) (y .yen-product .result) (pos 0))) ≡ word (s .args .prices .now) (yenProduct (productAt (g s) (s .args .j)) (s .args .j))
+  price-is = back (getD (s .args .prices .now) (y .yen-product .result) (pos 0)) (c .margin-of-arg .given) ∙ ap (word (s .args .prices .now)) (yen-is y)
+
+  rate-is : toZ w64 (ofZ w64 (c .before .rate-of .result)) ≡ rate
+  rate-is =
+      let r = c .before .rate-of in let p = y .before .before .before .product-at in let j = s .args .j in
+      came (r .result) (r .ok) (r .ensures ∙ λ i. rateOf ((back (p .result .mark) (y .before .before .struct-told .given .1 .0 .1) ∙ ap (λ (z : Product). z .mark) (p .ensures)) i)
+      (back (getD (s .args .rates8 .now) j (pos 0)) (c .before .before .before .rate-of-arg .given) i) (back (getD (s .args .rates104 .now) j (pos 0)) (c .before .before .rate-of-arg2 .given) i))
+
+product-at-requires : tie.Need-product-at-requires
+product-at-requires c κs = search needs
+
+held-word-requires : tie.Need-held-word-requires
+held-word-requires c κs = search needs
+
+yen-product-requires : tie.Need-yen-product-requires
+yen-product-requires c κs = search needs
+
+mul-rate-of : tie.Need-mul-rate-of
+mul-rate-of c = search needs
+
+shared-slice-copy-out-rate-of : tie.Need-shared-slice-copy-out-rate-of
+shared-slice-copy-out-rate-of c = search needs
+
+mul-rate-of-2 : tie.Need-mul-rate-of-2
+mul-rate-of-2 c = search needs
+
+shared-slice-copy-out-rate-of-2 : tie.Need-shared-slice-copy-out-rate-of-2
+shared-slice-copy-out-rate-of-2 c = search needs
+
+rate-of-requires : tie.Need-rate-of-requires
+rate-of-requires c κs = search needs
+
+mul-margin-of : tie.Need-mul-margin-of
+mul-margin-of c = let h = inside (c .before .before .before) in omega arith
+
+shared-slice-copy-out-margin-of : tie.Need-shared-slice-copy-out-margin-of
+shared-slice-copy-out-margin-of c = inside (c .before .before .before)
+
+margin-of-requires : tie.Need-margin-of-requires
+margin-of-requires c κs =
+    let t = s c in let j = t .args .j in let h = t .pre .1 .1 .1 .1 in let cell = t .pre .1 .0 .at j h in let y = word (t .args .prices .now) (yenProduct (productAt (g t) j) j) in
+    let k = rate-in (g t (floorMark j)) (word (t .args .rates8 .now) j) (word (t .args .rates104 .now) j) (t .pre .1 .1 .0 .in8 j h) (t .pre .1 .1 .0 .in104 j h) in
+    rw (lots-is c, price-is c, rate-is c) (cell .lots-in, (at-least 1 5000000 y (cell .yen-price), (at-most 1 5000000 y (cell .yen-price), (at-least 1 mostRate (rate c) k, at-most 1 mostRate (rate c) k))))
+
+returns : tie.Need-returns
+returns c =
+    let d = c .before in
+    came (c .margin-of .result) (c .margin-of .ok) (c .margin-of .ensures ∙ λ i. pos (marginOf (lots-is d i) (price-is d i) (rate-is d i)))
+
+pub charge-spec : {M : Type 1} → statement M
+charge-spec =
+    tie.close
+    (tie.spec
+    product-at-requires
+    held-word-requires
+    yen-product-requires
+    mul-rate-of
+    shared-slice-copy-out-rate-of
+    mul-rate-of-2
+    shared-slice-copy-out-rate-of-2
+    rate-of-requires
+    mul-margin-of
+    shared-slice-copy-out-margin-of
+    margin-of-requires
+    returns)

@@ -1,0 +1,50 @@
+-- The new dues of an account as one list, product by product: what a product's difference does to it. Assumes nothing.
+use mathlib.Core.Path.{_≡_, refl, sym, ap, subst, _∙_}
+use mathlib.Core.Logic.{_≢_}
+use mathlib.Core.Bool.{Bool, true, false}
+use mathlib.Core.List.{List}
+use Prim.Native.Nat.{ℕ, _+_, _<_}
+use native.Mathlib.Numerals.{add-one}
+use lib.Dec.{eqb}
+use lib.IntN.{ℤ, pos, natAbs, _+ℤ_, +ℤ-idr, +ℤ-assoc}
+use lib.ListN.{length, getD, set, length-set}
+use lib.Seq.{getD-set-same, getD-set-other, ext-getD}
+use borrow.Author.Tests.{eqb-true, eqb-false, eq-eqb, ne-eqb}
+use Rattle.whole.specs.Below.{sum, listed}
+use Rattle.whole.specs.Listed.{length-listed, getD-listed}
+use Rattle.places.specs.Place.{View, dues}
+use Rattle.daily.specs.Figures.{word, difference, addedTo, nextDue}
+
+-- the list f 0, f 1, .. with its word k made h's is h's list, where the others are h's already
+module _ (n : ℕ) (f h : ℕ → ℤ) (k : ℕ) (b : k < n) (others : (i : ℕ) → i ≢ k → f i ≡ h i) (v : ℤ) (e : v ≡ h k) where
+  long : length (set (listed n f) k v) ≡ n
+  long = length-set (listed n f) k v ∙ length-listed n f
+
+  at : (i : ℕ) → i < n → (t : Bool) → eqb i k ≡ t → getD (set (listed n f) k v) i (pos 0) ≡ getD (listed n h) i (pos 0)
+  at i l true q =
+      let z = eqb-true i k q in
+      rw z (getD-set-same (listed n f) k v (pos 0) (rw (length-listed n f) b) ∙ e ∙ sym (getD-listed n h (pos 0) k b))
+  at i l false q =
+      let z = eqb-false i k q in
+      getD-set-other (listed n f) k i v (pos 0) z ∙ getD-listed n f (pos 0) i l ∙ others i z ∙ sym (getD-listed n h (pos 0) i l)
+
+  pub listed-set : set (listed n f) k v ≡ listed n h
+  listed-set = ext-getD (pos 0) (set (listed n f) k v) (listed n h) (long ∙ sym (length-listed n h)) (λ i l. at i (subst (λ z. i < z) long l) (eqb i k) refl)
+
+-- the due d with what the first j products add
+abbrev pub part : List ℤ → List ℤ → View → ℕ → ℕ → ℕ → ℤ
+part prices lags g a j d = nextDue g a d +ℤ sum j (addedTo prices lags g a d)
+
+module _ (prices lags : List ℤ) (g : View) (a j : ℕ) where
+  abbrev k : ℕ
+  k = natAbs (word lags j)
+
+  other : (i : ℕ) → i ≢ k → part prices lags g a j i ≡ part prices lags g a (j + 1) i
+  other i ne = rw (add-one j, ne-eqb k i (λ q. ne (sym q))) (ap (λ z. nextDue g a i +ℤ z) (sym (+ℤ-idr (sum j (addedTo prices lags g a i)))))
+
+  pub named : part prices lags g a j k +ℤ difference prices g a j ≡ part prices lags g a (j + 1) k
+  named = rw (add-one j, eq-eqb k k refl) (+ℤ-assoc (nextDue g a k) (sum j (addedTo prices lags g a k)) (difference prices g a j))
+
+  -- one more product
+  pub part-more : k < dues → set (listed dues (part prices lags g a j)) k (part prices lags g a j k +ℤ difference prices g a j) ≡ listed dues (part prices lags g a (j + 1))
+  part-more h = listed-set dues (part prices lags g a j) (part prices lags g a (j + 1)) k h other (part prices lags g a j k +ℤ difference prices g a j) named

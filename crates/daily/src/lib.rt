@@ -1,0 +1,252 @@
+// The figures of a close (01, "The day", Close, and "The margin rules"): the tests of its four lists, and the new dues, initial margin and
+// books of one account. Each is read by place from the ledger's words.
+ghost use mathlib.Core.Path.{_≡_};
+ghost use Prim.Native.Nat.{_<_, _≤_};
+ghost use lib.IntN.{pos, natAbs};
+ghost use lib.ListN.{length};
+ghost use Rattle.whole.specs.Number.{between};
+ghost use Rattle.whole.specs.Below.{all, listed};
+ghost use Rattle.rules.specs.Sizes.{mostPrice, mostLots};
+ghost use Rattle.places.specs.Place.{get, dues, productKind, lots};
+ghost use Rattle.places.specs.PlaceLaws.{Sized};
+ghost use Rattle.places.specs.ByAccount.{byAccount};
+ghost use Rattle.soundness.specs.Sound.{productAt};
+ghost use Rattle.daily.specs.Figures as F;
+ghost use Rattle.daily.specs.Ranges.{Lengths, Rates, Lags, Row, EachDueIn};
+use places::Shape;
+use rules::Product;
+
+// The last due that a lag can name.
+const LAST_LAG: i64 = places::DUES as i64 - 1;
+
+// ---- the four lists of a close
+
+pub fn lengths_ok(p: usize, prices: &[i64], rates8: &[i64], rates104: &[i64], lags: &[i64]) -> bool
+    ensures { λ r. ⌜ r ≡ F.lengthsOk (now (prices .entry)) (now (rates8 .entry)) (now (rates104 .entry)) (now (lags .entry)) p ⌝ }
+{
+    if prices.len() != p {
+        return false;
+    }
+    if rates8.len() != p {
+        return false;
+    }
+    if rates104.len() != p {
+        return false;
+    }
+    lags.len() == p
+}
+
+fn word_between(list: &[i64], j: usize, lo: i64, hi: i64) -> bool
+    requires { ⌜ j < length (now list) ⌝ }
+    ensures { λ r. ⌜ r ≡ between lo hi (F.word (now (list .entry)) j) ⌝ }
+{
+    whole::within(list[j], lo, hi)
+}
+
+// The highest price of the product j: a yen price and a cross price have ranges of their own.
+fn highest_price(words: &[i64], s: Shape, j: usize) -> i64
+    requires { ⌜ Sized s (now words) ⌝ }
+    requires { ⌜ j < s .p ⌝ }
+    ensures { λ r. ⌜ r ≡ pos (mostPrice (get byAccount s (now (words .entry)) (productKind j))) ⌝ }
+{
+    rules::products::most_price(places::prod_word(words, s, j, places::PRODUCT_KIND))
+}
+
+// Whether the product j's price, rates and lag are in range.
+fn figure_ok(
+    words: &[i64],
+    s: Shape,
+    j: usize,
+    prices: &[i64],
+    rates8: &[i64],
+    rates104: &[i64],
+    lags: &[i64],
+) -> bool
+    requires { ⌜ Sized s (now words) ⌝ }
+    requires { ⌜ Lengths (s .p) (now prices) (now rates8) (now rates104) (now lags) ⌝ }
+    requires { ⌜ j < s .p ⌝ }
+    ensures { λ r. ⌜ r ≡ F.figureOk (now (prices .entry)) (now (rates8 .entry)) (now (rates104 .entry)) (now (lags .entry)) (get byAccount s (now (words .entry))) j ⌝ }
+{
+    if !word_between(prices, j, 1, highest_price(words, s, j)) {
+        return false;
+    }
+    if !word_between(rates8, j, 1, rules::sizes::MOST_RATE) {
+        return false;
+    }
+    if !word_between(rates104, j, 1, rules::sizes::MOST_RATE) {
+        return false;
+    }
+    word_between(lags, j, 0, LAST_LAG)
+}
+
+pub fn figures_ok(
+    words: &[i64],
+    s: Shape,
+    prices: &[i64],
+    rates8: &[i64],
+    rates104: &[i64],
+    lags: &[i64],
+) -> bool
+    requires { ⌜ Sized s (now words) ⌝ }
+    requires { ⌜ Lengths (s .p) (now prices) (now rates8) (now rates104) (now lags) ⌝ }
+    ensures { λ r. ⌜ r ≡ all (s .p) (F.figureOk (now (prices .entry)) (now (rates8 .entry)) (now (rates104 .entry)) (now (lags .entry)) (get byAccount s (now (words .entry)))) ⌝ }
+{
+    let p = s.p;
+    let mut j = 0;
+    while j < p {
+        if !figure_ok(words, s, j, prices, rates8, rates104, lags) {
+            return false;
+        }
+        j += 1;
+    }
+    true
+}
+
+// ---- dues
+
+// The difference of a position, in yen, rounded down; a cross's by the quote's new yen price.
+fn difference(words: &[i64], s: Shape, a: usize, j: usize, prices: &[i64]) -> i64
+    requires { ⌜ Sized s (now words) ⌝ }
+    requires { ⌜ Row (now prices) s (get byAccount s (now words)) a ⌝ }
+    requires { ⌜ (a < s .n) × (j < s .p) ⌝ }
+    ensures { λ r. ⌜ r ≡ F.difference (now (prices .entry)) (get byAccount s (now (words .entry))) a j ⌝ }
+{
+    let kind = places::prod_word(words, s, j, places::PRODUCT_KIND);
+    let lots = places::held_word(words, s, a, j, places::LOTS);
+    let book = places::held_word(words, s, a, j, places::BOOK);
+    let quote = whole::size(places::prod_word(words, s, j, places::QUOTE)) as usize;
+    rules::products::difference_of(kind, lots, book, prices[j], prices[quote])
+}
+
+// What stands at the due after d; after the last, 0.
+fn next_due(words: &[i64], s: Shape, a: usize, d: usize) -> i64
+    requires { ⌜ Sized s (now words) ⌝ }
+    requires { ⌜ (a < s .n) × (d < dues) ⌝ }
+    ensures { λ r. ⌜ r ≡ F.nextDue (get byAccount s (now (words .entry))) a d ⌝ }
+{
+    if d + 1 < places::DUES {
+        return places::acct_word(words, s, a, places::FIRST_DUE + (d + 1));
+    }
+    0
+}
+
+// The dues move up: due 0 becomes due 1, due 1 becomes due 2, due 2 becomes 0.
+fn move_up(words: &[i64], s: Shape, a: usize, new: &mut [i64])
+    requires { ⌜ Sized s (now words) ⌝ }
+    requires { ⌜ (a < s .n) × (length (now new) ≡ dues) ⌝ }
+    ensures { λ _. ⌜ now (new .exit) ≡ listed dues (F.nextDue (get byAccount s (now (words .entry))) a) ⌝ }
+{
+    let mut d = 0;
+    while d < places::DUES {
+        new[d] = next_due(words, s, a, d);
+        d += 1;
+    }
+}
+
+// Each product's difference is added to the due that its lag names.
+fn add_differences(words: &[i64], s: Shape, a: usize, prices: &[i64], lags: &[i64], new: &mut [i64])
+    requires { ⌜ Sized s (now words) ⌝ }
+    requires { ⌜ Row (now prices) s (get byAccount s (now words)) a ⌝ }
+    requires { ⌜ EachDueIn (get byAccount s (now words)) a ⌝ }
+    requires { ⌜ Lags (s .p) (now lags) ⌝ }
+    requires { ⌜ (a < s .n) × (now new ≡ listed dues (F.nextDue (get byAccount s (now words)) a)) ⌝ }
+    ensures { λ _. ⌜ now (new .exit) ≡ listed dues (F.newDue (now (prices .entry)) (now (lags .entry)) s (get byAccount s (now (words .entry))) a) ⌝ }
+{
+    let p = s.p;
+    let mut j = 0;
+    while j < p {
+        let d = whole::size(lags[j]) as usize;
+        let more = difference(words, s, a, j, prices);
+        new[d] = new[d] + more;
+        j += 1;
+    }
+}
+
+// The new dues of an account, in one walk over its positions: each difference is computed once.
+pub fn new_dues(words: &[i64], s: Shape, a: usize, prices: &[i64], lags: &[i64], new: &mut [i64])
+    requires { ⌜ Sized s (now words) ⌝ }
+    requires { ⌜ Row (now prices) s (get byAccount s (now words)) a ⌝ }
+    requires { ⌜ EachDueIn (get byAccount s (now words)) a ⌝ }
+    requires { ⌜ Lags (s .p) (now lags) ⌝ }
+    requires { ⌜ (a < s .n) × (length (now new) ≡ dues) ⌝ }
+    ensures { λ _. ⌜ now (new .exit) ≡ listed dues (F.newDue (now (prices .entry)) (now (lags .entry)) s (get byAccount s (now (words .entry))) a) ⌝ }
+{
+    move_up(words, s, a, new);
+    add_differences(words, s, a, prices, lags, new);
+}
+
+// ---- the initial margin
+
+fn product_at(words: &[i64], s: Shape, j: usize) -> Product
+    requires { ⌜ Sized s (now words) ⌝ }
+    requires { ⌜ j < s .p ⌝ }
+    ensures { λ r. ⌜ r ≡ productAt (get byAccount s (now (words .entry))) j ⌝ }
+{
+    Product {
+        kind: places::prod_word(words, s, j, places::PRODUCT_KIND),
+        mark: places::prod_word(words, s, j, places::FLOOR_MARK),
+        price: places::prod_word(words, s, j, places::PRICE),
+        principal: places::prod_word(words, s, j, places::PRINCIPAL),
+        quote: places::prod_word(words, s, j, places::QUOTE),
+    }
+}
+
+// The margin of a position, from the new price of the principal currency against yen and the new rates.
+fn charge(
+    words: &[i64],
+    s: Shape,
+    a: usize,
+    j: usize,
+    prices: &[i64],
+    rates8: &[i64],
+    rates104: &[i64],
+) -> i64
+    requires { ⌜ Sized s (now words) ⌝ }
+    requires { ⌜ Row (now prices) s (get byAccount s (now words)) a ⌝ }
+    requires { ⌜ Rates (s .p) (now rates8) (now rates104) ⌝ }
+    requires { ⌜ (a < s .n) × (j < s .p) ⌝ }
+    ensures { λ r. ⌜ r ≡ pos (F.charge (now (prices .entry)) (now (rates8 .entry)) (now (rates104 .entry)) (get byAccount s (now (words .entry))) a j) ⌝ }
+{
+    let product = product_at(words, s, j);
+    let mark = product.mark;
+    let lots = places::held_word(words, s, a, j, places::LOTS);
+    let yen = rules::products::yen_product(product, j);
+    let rate = rules::products::rate_of(mark, rates8[j], rates104[j]);
+    rules::products::margin_of(lots, prices[yen], rate)
+}
+
+pub fn new_margin(
+    words: &[i64],
+    s: Shape,
+    a: usize,
+    prices: &[i64],
+    rates8: &[i64],
+    rates104: &[i64],
+) -> i64
+    requires { ⌜ Sized s (now words) ⌝ }
+    requires { ⌜ Row (now prices) s (get byAccount s (now words)) a ⌝ }
+    requires { ⌜ Rates (s .p) (now rates8) (now rates104) ⌝ }
+    requires { ⌜ a < s .n ⌝ }
+    ensures { λ r. ⌜ r ≡ F.newMargin (now (prices .entry)) (now (rates8 .entry)) (now (rates104 .entry)) s (get byAccount s (now (words .entry))) a ⌝ }
+{
+    let p = s.p;
+    let mut margin: i64 = 0;
+    let mut j = 0;
+    while j < p {
+        margin += charge(words, s, a, j, prices, rates8, rates104);
+        j += 1;
+    }
+    margin
+}
+
+// ---- the book
+
+pub fn new_book(words: &[i64], s: Shape, a: usize, j: usize, prices: &[i64]) -> i64
+    requires { ⌜ Sized s (now words) ⌝ }
+    requires { ⌜ (length (now prices) ≡ s .p) × (a < s .n) × (j < s .p) ⌝ }
+    requires { ⌜ natAbs (get byAccount s (now words) (lots a j)) ≤ mostLots ⌝ }
+    requires { ⌜ natAbs (F.word (now prices) j) ≤ 5000000 ⌝ }
+    ensures { λ r. ⌜ r ≡ F.newBook (now (prices .entry)) (get byAccount s (now (words .entry))) a j ⌝ }
+{
+    places::held_word(words, s, a, j, places::LOTS) * prices[j]
+}

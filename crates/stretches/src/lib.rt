@@ -1,0 +1,1 @@
+// Demand 3 over the rules of the ledger. Specifications alone: nothing here runs.
