@@ -1,0 +1,60 @@
+// Demand 3, run: random histories of requests between the transfers of a settlement run, over the proved calls. Each is done as it came, and
+// again in three stretches on the same start; every answer and every word at the end is compared. Prints how many histories, events and
+// differences there were, and how many events of each stretch.
+use libc::STDOUT_FILENO;
+
+mod chance;
+mod events;
+mod start;
+
+const HISTORIES: u64 = 4000;
+
+fn text(bytes: &[u8]) {
+    io::write_all(STDOUT_FILENO, bytes);
+}
+
+fn show(name: &[u8], count: u64) {
+    text(name);
+    io::print_decimal(STDOUT_FILENO, count);
+    text(b"\n");
+}
+
+// The differences between a history as it came and in three stretches.
+fn differences(seed: u64) -> u64 {
+    let mut words = [0i64; 75];
+    start::write(&mut words, seed);
+    let mut again = words;
+    let mut answers = [0i64; 128];
+    let bad = events::unsound(&words);
+    events::mixture(&mut words, &mut answers, seed);
+    let early = events::stretch(&mut again, &answers, seed, events::EARLY);
+    let run = events::stretch(&mut again, &answers, seed, events::RUN);
+    let late = events::stretch(&mut again, &answers, seed, events::LATE);
+    let idle = events::attempts(&answers, seed);
+    bad % 64 + early % 64 + run % 64 + late % 64 + idle % 64 + events::altered(&words, &again) % 128
+}
+
+fn total(which: u64) -> u64 {
+    let mut sum: u64 = 0;
+    let mut seed: u64 = 0;
+    while seed < HISTORIES {
+        sum += events::of_stretch(seed, which) % 64;
+        seed += 1;
+    }
+    sum
+}
+
+fn main() {
+    let mut sum: u64 = 0;
+    let mut seed: u64 = 0;
+    while seed < HISTORIES {
+        sum += differences(seed) % 1024;
+        seed += 1;
+    }
+    show(b"histories: ", HISTORIES);
+    show(b"early requests: ", total(events::EARLY));
+    show(b"transfers: ", total(events::RUN));
+    show(b"late requests: ", total(events::LATE));
+    show(b"attempts to begin or close: ", total(events::IDLE));
+    show(b"differences: ", sum);
+}
