@@ -5,6 +5,7 @@ pub mod accounts; // the margin rules on one account, and what a sound record is
 pub mod calls; // deposit, withdrawal, guarantee, transfer and question on one account, and the teller window
 
 // What a call answers: 0 and a figure, or the refusal's number and its figure (01, "Numbers returned").
+#[repr(C)]
 pub struct Reply {
     pub number: u64,
     pub figure: i64,
@@ -19,6 +20,7 @@ pub struct Standing {
 }
 
 // An account's figures before its positions. Kind 0 is a broker F, 1 a liquidity provider L.
+#[repr(C)]
 pub struct Account {
     pub kind: i64,
     pub cash: i64,

@@ -1,0 +1,99 @@
+//! The requests of "The day": deposit, withdrawal, guarantee, question, trade.
+//!
+//! Every one is taken in every phase. The tests stand in the order of "Numbers
+//! returned"; the words are written only after the last of them.
+
+use crate::ledger::{self, CROSS};
+use crate::limits::{book_limit, price_limit, within, AMOUNT, GUARANTEE, LOTS};
+use crate::margin::{lg_value, CAP, GUARANTEE_AT, KIND, RECORD};
+use crate::{teller, word, Answer, Reply};
+
+/// 1, 3, 5, 10; the figure is the new cash.
+pub fn deposit(words: &mut [i64], account: i64, amount: i64) -> Reply {
+    let Some(at) = ledger::sound(words) else { return Reply::refused(1) };
+    let Some(a) = at.find_account(account) else { return Reply::refused(3) };
+    if !within(amount, 1, AMOUNT) {
+        return Reply::refused(5);
+    }
+    let record = at.account(a);
+    teller::pay_in(&mut words[record..record + RECORD], amount)
+}
+
+/// 1, 3, 5, 11 with the limit; the figure is the new cash.
+pub fn withdraw(words: &mut [i64], account: i64, amount: i64) -> Reply {
+    let Some(at) = ledger::sound(words) else { return Reply::refused(1) };
+    let Some(a) = at.find_account(account) else { return Reply::refused(3) };
+    if !within(amount, 1, AMOUNT) {
+        return Reply::refused(5);
+    }
+    let record = at.account(a);
+    teller::pay_out(&mut words[record..record + RECORD], amount)
+}
+
+/// 1, 3, 5, 6; the figure is the new LG value. An L has none, not even 0 and 0.
+pub fn guarantee(words: &mut [i64], account: i64, guarantee: i64, cap: i64) -> Reply {
+    let Some(at) = ledger::sound(words) else { return Reply::refused(1) };
+    let Some(a) = at.find_account(account) else { return Reply::refused(3) };
+    if !within(guarantee, 0, GUARANTEE) || !within(cap, 0, GUARANTEE) {
+        return Reply::refused(5);
+    }
+    let record = at.account(a);
+    if words[record + KIND] == 1 {
+        return Reply::refused(6);
+    }
+    words[record + GUARANTEE_AT] = guarantee;
+    words[record + CAP] = cap;
+    Reply::done(lg_value(i128::from(guarantee), i128::from(cap)))
+}
+
+/// 1, 3; limit and both shortfalls. It only reads.
+pub fn question(words: &[i64], account: i64) -> Answer {
+    let Some(at) = ledger::sound(words) else { return Answer::refused(1) };
+    let Some(a) = at.find_account(account) else { return Answer::refused(3) };
+    let account = crate::margin::Account::read(&words[at.account(a)..]);
+    Answer {
+        number: 0,
+        limit: word(account.limit()),
+        first: word(account.first_shortfall()),
+        second: word(account.second_shortfall()),
+    }
+}
+
+/// 1, 3, 4, 6, 8, 9; the figure is 0. Buyer and seller are one F and one L, so
+/// never the same account.
+pub fn trade(
+    words: &mut [i64],
+    buyer: i64,
+    seller: i64,
+    product: i64,
+    lots: i64,
+    price: i64,
+) -> Reply {
+    let Some(at) = ledger::sound(words) else { return Reply::refused(1) };
+    let (Some(buyer), Some(seller)) = (at.find_account(buyer), at.find_account(seller)) else {
+        return Reply::refused(3);
+    };
+    let Some(j) = at.find_product(product) else { return Reply::refused(4) };
+    if words[at.account(buyer) + KIND] == words[at.account(seller) + KIND] {
+        return Reply::refused(6);
+    }
+    let cross = words[at.product(j) + CROSS] == 1;
+    if !within(lots, 1, LOTS) || !within(price, 1, price_limit(cross)) {
+        return Reply::refused(8);
+    }
+    let value = i128::from(lots) * i128::from(price);
+    let bought = moved(words, at.position(buyer, j), i128::from(lots), value, cross);
+    let sold = moved(words, at.position(seller, j), -i128::from(lots), -value, cross);
+    let (Some(bought), Some(sold)) = (bought, sold) else { return Reply::refused(9) };
+    words[at.position(buyer, j)..][..2].copy_from_slice(&bought);
+    words[at.position(seller, j)..][..2].copy_from_slice(&sold);
+    Reply::done(0)
+}
+
+/// Lots and book of a position after a trade, if both stay in range.
+fn moved(words: &[i64], at: usize, lots: i128, value: i128, cross: bool) -> Option<[i64; 2]> {
+    let lots = i128::from(words[at]) + lots;
+    let book = i128::from(words[at + 1]) + value;
+    let fits = lots.abs() <= i128::from(LOTS) && book.abs() <= i128::from(book_limit(cross));
+    fits.then(|| [word(lots), word(book)])
+}

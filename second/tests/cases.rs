@@ -1,0 +1,61 @@
+//! The file of cases: the same every time, small enough, every number in it.
+
+use second::cases::{check, checksum, write};
+use second::clerk::Plain;
+use std::collections::BTreeSet;
+
+#[test]
+fn the_file_is_small_and_comes_out_again() {
+    let file = write();
+    assert_eq!(file, write());
+    assert!(file.len() < 200_000, "{} bytes", file.len());
+    let done = check(&Plain, &file).expect("all cases as on file");
+    assert!((300..1_000).contains(&done), "{done} cases");
+}
+
+#[test]
+fn every_number_is_in_it() {
+    let file = write();
+    let mut seen = BTreeSet::new();
+    for line in file.lines().filter(|line| !line.starts_with('#')) {
+        let fields: Vec<&str> = line.split(' ').collect();
+        // Number, one figure or a question's three, checksum.
+        let back = if fields[0] == "Q" { 5 } else { 3 };
+        seen.insert((fields[0], fields[fields.len() - back]));
+    }
+    for (kind, numbers) in [
+        ("D", &["0", "1", "3", "5", "10"][..]),
+        ("W", &["0", "1", "3", "5", "11"]),
+        ("G", &["0", "1", "3", "5", "6"]),
+        ("Q", &["0", "1", "3"]),
+        ("T", &["0", "1", "3", "4", "6", "8", "9"]),
+        ("B", &["0", "1", "7", "13"]),
+        ("S", &["0", "1", "7"]),
+        ("C", &["0", "1", "2", "7", "8", "12"]),
+        ("H", &["0", "2", "5", "8"]),
+        ("P", &["0", "1", "5", "10"]),
+        ("R", &["0", "1", "5", "11"]),
+    ] {
+        for number in numbers {
+            assert!(seen.contains(&(kind, *number)), "{kind} never gives {number}");
+        }
+    }
+}
+
+#[test]
+fn a_changed_file_is_noticed() {
+    let file = write();
+    let line = file.lines().find(|line| line.starts_with('D')).expect("a deposit");
+    let (start, sum) = line.rsplit_once(' ').expect("a checksum");
+    let sum: i64 = sum.parse().expect("a number");
+    let changed = file.replacen(line, &format!("{start} {}", sum + 1), 1);
+    assert!(check(&Plain, &changed).is_err());
+}
+
+#[test]
+fn checksums_by_hand() {
+    assert_eq!(checksum([].into_iter()), 0);
+    assert_eq!(checksum([5].into_iter()), 1_000_008);
+    assert_eq!(checksum([-1].into_iter()), (1_000_003 + 2_147_483_646) % 2_147_483_647);
+    let _ = checksum([i64::MIN, i64::MAX].into_iter());
+}

@@ -1,0 +1,207 @@
+//! The harness itself: this program agrees with itself, and each of a row of
+//! wrong clerks is found out.
+
+use second::clerk::{Clerk, Lists, Members, Plain};
+use second::harness::Harness;
+use second::ledger::{sound, PHASE};
+use second::margin::{Account, CASH, DUE};
+use second::rng::Rng;
+use second::{Answer, Reply};
+
+#[test]
+fn this_program_agrees_with_itself() {
+    let mut harness = Harness::new(&Plain, &Plain);
+    for round in 0..3_000 {
+        harness.round(&mut Rng::of_round(1, round)).expect("no difference");
+    }
+    // Every number of every call has come up.
+    for (name, numbers) in [
+        ("deposit", &[0, 1, 3, 5, 10][..]),
+        ("withdraw", &[0, 1, 3, 5, 11]),
+        ("guarantee", &[0, 1, 3, 5, 6]),
+        ("question", &[0, 1, 3]),
+        ("trade", &[0, 1, 3, 4, 6, 8, 9]),
+        ("begin", &[0, 1, 7, 13]),
+        ("step", &[0, 1, 7]),
+        ("close", &[0, 1, 2, 7, 8, 12]),
+        ("share", &[0, 2, 5, 8]),
+        ("teller deposit", &[0, 1, 5, 10]),
+        ("teller withdraw", &[0, 1, 5, 11]),
+    ] {
+        for &number in numbers {
+            assert!(harness.counts.contains_key(&(name, number)), "{name} never gave {number}");
+        }
+    }
+}
+
+fn is_found_out(wrong: &dyn Clerk, name: &str) {
+    let mut harness = Harness::new(&Plain, wrong);
+    let found = (0..20_000).any(|round| harness.round(&mut Rng::of_round(2, round)).is_err());
+    assert!(found, "{name} was not found out");
+}
+
+/// One of the paper's four empty programs.
+struct RefusesEverything;
+impl Clerk for RefusesEverything {
+    fn deposit(&self, _: &mut [i64], _: i64, _: i64) -> Reply {
+        Reply::refused(1)
+    }
+}
+
+struct ConstantReply;
+impl Clerk for ConstantReply {
+    fn step(&self, words: &mut [i64]) -> Reply {
+        second::step(words);
+        Reply { number: 0, figure: 0 }
+    }
+}
+
+struct LeavesTheLedgerAlone;
+impl Clerk for LeavesTheLedgerAlone {
+    fn trade(&self, words: &mut [i64], b: i64, s: i64, product: i64, l: i64, price: i64) -> Reply {
+        second::trade(&mut words.to_vec(), b, s, product, l, price)
+    }
+}
+
+/// Moves all dues at the first step and idles after.
+struct MovesAllAtOnce;
+impl Clerk for MovesAllAtOnce {
+    fn step(&self, words: &mut [i64]) -> Reply {
+        let phase = words.get(PHASE).copied();
+        let given = second::step(words);
+        if given.number == 0 && phase == Some(1) {
+            let at = sound(words).expect("a sound ledger");
+            for a in 1..at.n {
+                let record = at.account(a);
+                words[record + CASH] += words[record + DUE];
+                words[record + DUE] = 0;
+            }
+        }
+        given
+    }
+}
+
+/// Lets the LG count in excess two.
+struct CountsTheLetterTwice;
+impl Clerk for CountsTheLetterTwice {
+    fn question(&self, words: &[i64], account: i64) -> Answer {
+        let mut answer = second::question(words, account);
+        if let (0, Some(at)) = (answer.number, sound(words)) {
+            let a = Account::read(&words[at.account(account as usize)..]);
+            if !a.provider {
+                let two = a.deposit() + a.due[0] - a.margin;
+                let one = a.deposit() - a.required();
+                answer.limit = a.cash.min(one).min(two).max(0) as i64;
+            }
+        }
+        answer
+    }
+}
+
+/// Holds required margin at zero when it is negative.
+struct HoldsRequiredAtZero;
+impl Clerk for HoldsRequiredAtZero {
+    fn question(&self, words: &[i64], account: i64) -> Answer {
+        let mut answer = second::question(words, account);
+        if let (0, Some(at)) = (answer.number, sound(words)) {
+            let a = Account::read(&words[at.account(account as usize)..]);
+            answer.first = (a.required().max(0) - a.deposit()).max(0) as i64;
+        }
+        answer
+    }
+}
+
+/// Rounds a loss of a yen product toward zero.
+struct RoundsTowardZero;
+impl Clerk for RoundsTowardZero {
+    fn close(&self, words: &mut [i64], lists: Lists) -> Reply {
+        let before = words.to_vec();
+        let given = Plain.close(words, lists);
+        if let (0, Some(at)) = (given.number, sound(&before)) {
+            for a in 0..at.n {
+                for j in (0..at.p).filter(|&j| before[at.product(j)] == 0) {
+                    let position = &before[at.position(a, j)..];
+                    let raw = position[0] * lists.prices[j] - position[1];
+                    let lag = lists.lags[j] as usize;
+                    words[at.account(a) + DUE + lag] += i64::from(raw < 0 && raw % 10 != 0);
+                }
+            }
+        }
+        given
+    }
+}
+
+/// Gives a tie to the higher account.
+struct TieToTheHigher;
+impl Clerk for TieToTheHigher {
+    fn share(&self, loss: i64, of: Members, first: &mut [i64], second: &mut [i64]) -> Reply {
+        let given = Plain.share(loss, of, first, second);
+        let members = if given.number == 0 { of.marks.len() } else { 0 };
+        for (a, b) in (0..members).zip(1..members) {
+            let alike = of.marks[a] == of.marks[b] && of.deposits[a] == of.deposits[b];
+            if alike && first[a] == first[b] + 1 {
+                first.swap(a, b);
+            }
+        }
+        given
+    }
+}
+
+/// Writes one word past the list.
+struct WritesBeside;
+impl Clerk for WritesBeside {
+    fn begin(&self, words: &mut [i64]) -> Reply {
+        // The harness lends the words within a larger list of its own.
+        unsafe { *words.as_mut_ptr().add(words.len()) = 0 };
+        second::begin(words)
+    }
+}
+
+/// Alters the record although it refuses.
+struct AltersOnRefusal;
+impl Clerk for AltersOnRefusal {
+    fn teller_withdraw(&self, record: &mut [i64; 8], amount: i64) -> Reply {
+        let given = second::teller::withdraw(record, amount);
+        if given.number == 11 {
+            record[CASH] = given.figure;
+        }
+        given
+    }
+}
+
+/// Takes a text of 65,537 bytes.
+struct ReadsTooMuch;
+impl Clerk for ReadsTooMuch {
+    fn sheet(&self, text: &[u8], out: &mut [u8]) -> usize {
+        let cut = if text.len() == 65_537 { &text[..65_536] } else { text };
+        Plain.sheet(cut, out)
+    }
+}
+
+/// Leaves a byte past the sheet.
+struct SpillsAByte;
+impl Clerk for SpillsAByte {
+    fn sheet(&self, text: &[u8], out: &mut [u8]) -> usize {
+        let length = Plain.sheet(text, out);
+        if length > 0 {
+            out[length] = 0;
+        }
+        length
+    }
+}
+
+#[test]
+fn wrong_clerks_are_found_out() {
+    is_found_out(&RefusesEverything, "refuses everything");
+    is_found_out(&ConstantReply, "constant reply");
+    is_found_out(&LeavesTheLedgerAlone, "leaves the ledger alone");
+    is_found_out(&MovesAllAtOnce, "moves all at once");
+    is_found_out(&CountsTheLetterTwice, "counts the letter twice");
+    is_found_out(&HoldsRequiredAtZero, "holds required at zero");
+    is_found_out(&RoundsTowardZero, "rounds toward zero");
+    is_found_out(&TieToTheHigher, "tie to the higher");
+    is_found_out(&WritesBeside, "writes beside the list");
+    is_found_out(&AltersOnRefusal, "alters on refusal");
+    is_found_out(&ReadsTooMuch, "reads too much");
+    is_found_out(&SpillsAByte, "spills a byte");
+}
