@@ -134,3 +134,11 @@ pub extern "C" fn fx_teller_withdraw(account: &mut Account, x: i64) -> Reply
         figure: taken.figure,
     }
 }
+
+// The bytes of the sheet, written at the start of `out`; 0, and `out` as it was, where it has not room for every sheet (65,536 bytes).
+#[no_mangle]
+pub extern "C" fn fx_sheet(text: &[u8], out: &mut [u8]) -> usize
+    ensures { λ r. ⌜ (r, now (out .exit)) ≡ answerOf (sheetOf theLedger (now (text .entry))) (now (out .entry)) ⌝ }
+{
+    day::sheet(text, out)
+}

@@ -1,0 +1,3 @@
+pub mod RunLaws
+pub mod SheetLaws
+pub mod StartLaws

@@ -1,0 +1,106 @@
+-- What is left of the sheet, written from here, is the whole, written from the start; and the ledger is sound at every turn.
+use mathlib.Core.Path.{_≡_, refl, sym, _∙_, ap₂, subst}
+use mathlib.Core.List.{List, [], _++_, append-nil}
+use Prim.Native.Nat.{ℕ, _+_, _-_, _*_, _≤_}
+use native.Mathlib.Omega.{arith}
+use lib.IntN.{ℤ}
+use lib.ListN.{length, getD}
+use Rattle.places.specs.ByAccount.{byAccount}
+use Rattle.soundness.specs.SoundLaws.{Ledger}
+use Rattle.lines.proofs.WriteLaws.{Wrote, wrote-none, wrote-more, wrote-done}
+use Rattle.dayfile.specs.Calls.{callAt, callOf, callsAt}
+use Rattle.day.specs.Inside.{doneAt}
+use Rattle.day.specs.Joined.{theLedger}
+use Rattle.day.specs.JoinedLaws.{keeps}
+use Rattle.day.specs.Sheet.{replyLine, endPart, callsPart}
+use Rattle.day.proofs.RunLaws.{calls-more, calls-none}
+use Rattle.day.proofs.SheetLaws.{reply-length}
+use borrow.Author.Needs.{needs}
+use Rattle.day.proofs.run_calls.Statement.{statement}
+use Rattle.day.proofs.run_calls.Tie as tie
+
+abbrev Inv-loop : tie.InvT-loop
+Inv-loop text from count s words₀ figures₀ out₀ start at₀ put₀ left₀ words figures out at put left =
+    (put + left * 44 + s .n * 176 + 28 ≤ length out) × (length figures ≡ length figures₀) × (length words ≡ length words₀) × Ledger byAccount s words
+    × Wrote out₀ start (callsPart theLedger (s .n) (s .p) (callsAt text (s .p) from count) words₀) out put (callsPart theLedger (s .n) (s .p) (callsAt text (s .p) at left) words)
+
+abbrev μ-loop : tie.MeasureT-loop
+μ-loop text from count s words₀ figures₀ out₀ start at₀ put₀ left₀ words figures out at put left =
+    left
+
+-- src/lib.rt:140:5
+loop-holds : tie.Need-loop-holds Inv-loop μ-loop
+loop-holds c = (omega arith, refl, refl, c .before .before .pre .0, wrote-none _ _ _)
+
+-- src/lib.rt:141:13
+do-call-requires : tie.Need-do-call-requires Inv-loop μ-loop
+do-call-requires c κs = (c .before .before .before .before .loop .inv .3, (omega (arith, c .before .before .before .before .loop .inv .1, c .before .before .before .before .before .before .before .pre .1 .0), omega (arith, c .before .before .before .before .loop .inv .0)))
+
+-- src/lib.rt:144:9
+sub-left : tie.Need-sub-left Inv-loop μ-loop
+sub-left c = omega arith
+
+-- src/lib.rt:140:5
+loop-less : tie.Need-loop-less Inv-loop μ-loop
+loop-less c = omega arith
+
+-- src/lib.rt:140:5
+loop-again : tie.Need-loop-again Inv-loop μ-loop
+loop-again c =
+    let l = c .before .before .before .before .before .before .before .before .before .loop in
+    let a = c .before .before .before .before .before .before .before .before .before .before .before .before .args in
+    let k = c .before .before .before .before .do-call in
+    let n = a .s .n in
+    let p = a .s .p in
+    let text = a .text .now in
+    let done = doneAt theLedger text p (l .at) (l .words) in
+    let rest = callsPart theLedger n p (callsAt text p (k .result .at) (l .left - 1)) (k .last .1 .1 .1 .0) in
+    let rest-is = calls-more theLedger n p text (l .at) (l .left) (l .words) (omega arith) ∙ ap₂ (λ (m : ℕ) (w : List ℤ). replyLine (done .0) ++ callsPart theLedger n p (callsAt text p m (l .left - 1)) w) (sym (k .ensures .at-is)) (sym (k .ensures .words-are)) in (
+      omega (arith, k .ensures .put-is, k .kept .1 .1 .1 .1 .1 .0, reply-length (done .0)),
+      k .kept .1 .1 .1 .1 .0 ∙ l .inv .1,
+      k .kept .1 .1 .1 .0 ∙ l .inv .2,
+      subst (Ledger byAccount (a .s)) (sym (k .ensures .words-are)) (keeps (a .s) (l .words) (l .inv .3) (callOf p (getD text (l .at) 0) (callAt text p (l .at) .values))),
+      wrote-more (l .inv .4) (replyLine (done .0)) rest rest-is (k .ensures .put-is) (k .ensures .out-is),
+    )
+
+-- src/lib.rt:146:5
+put-end-requires : tie.Need-put-end-requires Inv-loop μ-loop
+put-end-requires c κs = (c .before .before .before .loop .inv .3, omega (arith, c .before .before .before .loop .inv .0))
+
+-- src/lib.rt:124:1
+same-length : tie.Need-same-length Inv-loop μ-loop
+same-length c = search needs
+
+-- src/lib.rt:124:1
+same-length-2 : tie.Need-same-length-2 Inv-loop μ-loop
+same-length-2 c = search needs
+
+-- src/lib.rt:124:1
+same-length-3 : tie.Need-same-length-3 Inv-loop μ-loop
+same-length-3 c = c .before .before .put-end .kept .0 ∙ c .before .before .before .before .before .before .loop .inv .4 .same
+
+-- src/lib.rt:124:1
+returns : tie.Need-returns Inv-loop μ-loop
+returns c =
+    let l = c .before .before .before .before .before .before .loop in
+    let a = c .before .before .before .before .before .before .before .before .before .args in
+    let k = c .before .before .put-end in
+    let e = endPart theLedger (a .s .n) (a .s .p) (l .words) in
+    wrote-done (wrote-more (l .inv .4) e [] (calls-none theLedger (a .s .n) (a .s .p) (a .text .now) (l .at) (l .left) (l .words) (omega arith) ∙ sym (append-nil e)) (k .ensures .0) (k .ensures .1)) refl
+
+pub run-calls-spec : {M : Type 1} → statement M
+run-calls-spec =
+    tie.close
+    (tie.spec
+    Inv-loop
+    μ-loop
+    loop-holds
+    do-call-requires
+    sub-left
+    loop-less
+    loop-again
+    put-end-requires
+    same-length
+    same-length-2
+    same-length-3
+    returns)

@@ -1,0 +1,55 @@
+-- The bodies, section by section; line numbers stay small. Assumes nothing.
+use mathlib.Core.Path.{_≡_}
+use mathlib.Core.Bool.{Bool, true, false, cond}
+use mathlib.Core.List.{List}
+use Prim.Native.Nat.{ℕ, zero, suc, _+_, _≤_}
+use native.Mathlib.Omega.{arith}
+use lib.Dec.{eqb}
+use lib.IntN.{ℤ}
+use Rattle.lines.specs.Lines.{lost, Line, Stand, placeOf, onward, lines}
+use Rattle.dayfile.specs.Calls.{callsFrom}
+use Rattle.dayfile.specs.Day.{ended, bodiesOf}
+use Rattle.dayfile.specs.Inside.{Bodied}
+use Rattle.dayfile.specs.Sections.{noMarks, productsFrom, accountsFrom, Stated, positionsFrom}
+use Rattle.dayfile.specs.Words.{freshWords}
+use Rattle.lines.specs.declared.Place.{Place}
+use Rattle.dayfile.specs.declared.Contents.{Contents}
+
+module _ {M : Type 0} (read : ℕ → ℕ → M → Line M) where
+  line-step : (k : ℕ) (t u : Bool) (a line : ℕ) (h : M) (rest : Stand M) → rest .line ≤ cond t line (line + 1) + k → cond {A = Stand M} u (record { at = a; line = cond t line (line + 1); held = h }) rest .line ≤ line + suc k
+  line-step k true true a line h rest e = omega arith
+  line-step k true false a line h rest e = omega arith
+  line-step k false true a line h rest e = omega arith
+  line-step k false false a line h rest e = omega arith
+
+  pub lines-line : (k i : ℕ) (s : Stand M) → lines read k i s .line ≤ s .line + k
+  unfolding lines
+  lines-line zero i s = omega arith
+  lines-line (suc k) i s = line-step k (eqb (read i (s .at) (s .held) .next) lost) (eqb (read i (s .at) (s .held) .next) lost) (read i (s .at) (s .held) .next) (s .line) (read i (s .at) (s .held) .held) (lines read k (i + 1) (onward (s .line) (read i (s .at) (s .held)))) (lines-line k (i + 1) (onward (s .line) (read i (s .at) (s .held))))
+
+pub products-line : (text : List ℕ) (at line p : ℕ) (w : List ℤ) → productsFrom text at line p w .line ≤ line + p
+unfolding productsFrom
+products-line text at line p w = lines-line _ p 0 _
+
+pub accounts-line : (text : List ℕ) (at line p n : ℕ) (w : List ℤ) → accountsFrom text at line p n w .line ≤ line + n
+unfolding accountsFrom
+accounts-line text at line p n w = lines-line _ n 0 _
+
+pub positions-line : (text : List ℕ) (at line n p m : ℕ) (s : Stated) → positionsFrom text at line n p m s .line ≤ line + m
+unfolding positionsFrom
+positions-line text at line n p m s = lines-line _ m 0 _
+
+pub calls-line : (text : List ℕ) (at line p k : ℕ) → callsFrom text at line p k .line ≤ line + k
+unfolding callsFrom
+calls-line text at line p k = lines-line _ k 0 _
+
+module _ (text : List ℕ) (c : Contents) (w0 w1 w2 w3 : List ℤ) (m0 : List ℕ) (A B D E : Place) (end : ℕ) (e0 : w0 ≡ freshWords (c .accounts) (c .products)) (em : m0 ≡ noMarks) (eA : A ≡ placeOf (productsFrom text (c .at) (c .line) (c .products) w0)) (e1 : w1 ≡ productsFrom text (c .at) (c .line) (c .products) w0 .held) (eB : B ≡ placeOf (accountsFrom text (A .at) (A .line) (c .products) (c .accounts) w1)) (e2 : w2 ≡ accountsFrom text (A .at) (A .line) (c .products) (c .accounts) w1 .held) (eD : D ≡ placeOf (positionsFrom text (B .at) (B .line) (c .accounts) (c .products) (c .positions) (record { words = w2; marks = m0 }))) (e3 : w3 ≡ positionsFrom text (B .at) (B .line) (c .accounts) (c .products) (c .positions) (record { words = w2; marks = m0 }) .held .words) (eE : E ≡ placeOf (callsFrom text (D .at) (D .line) (c .products) (c .calls))) (ee : end ≡ ended text (E .at)) where
+  pub bodies-are : Bodied text c (record { at = end; line = E .line; «calls_at» = D .at }) w3
+  unfolding bodiesOf
+  bodies-are =
+      record {
+        at-is = rw (ee, eE, eD, e2, eB, e1, eA, e0, em);
+        line-is = rw (eE, eD, e2, eB, e1, eA, e0, em);
+        calls-are = rw (eD, e2, eB, e1, eA, e0, em);
+        words-are = rw (e3, e2, eB, e1, eA, e0, em);
+      }

@@ -1,0 +1,11 @@
+-- Laws: of the ledger's words, of counts and of calls (`DayLaws`), of a position's line (`PositionLaws`), of the table of contents
+-- (`ContentsLaws`), of the bodies (`BodyLaws`) and their first words (`HeadLaws`). Who is lost stays lost (`LostLaws`).
+pub mod DayLaws
+pub mod PositionLaws
+pub mod ContentsLaws
+pub mod BodyLaws
+pub mod HeadLaws
+pub mod LostLaws
+pub mod View
+pub mod Thin
+pub mod Reading

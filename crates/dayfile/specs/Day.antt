@@ -1,0 +1,47 @@
+-- The day file (01, "The day file and the sheet"): the table of contents, then the bodies, from the first line to the last.
+use mathlib.Core.Bool.{cond}
+use mathlib.Core.List.{List}
+use Prim.Native.Nat.{ℕ}
+use lib.Dec.{eqb}
+use lib.IntN.{ℤ}
+use lib.ListN.{length}
+use Rattle.lines.specs.Lines.{lost}
+use Rattle.dayfile.specs.Calls.{Call, callsFrom, callsAt}
+use Rattle.dayfile.specs.Sections.{productsFrom, accountsFrom, noMarks, positionsFrom}
+use Rattle.dayfile.specs.Table.{contentsOf}
+use Rattle.dayfile.specs.Words.{freshWords}
+use Rattle.dayfile.specs.declared.Contents.{Contents}
+
+-- a ledger's words and the calls on it; the place behind the last call, or lost; the number of the line there, or of the bad line
+pub record Day : Type 0 where
+  pub accounts : ℕ
+  pub products : ℕ
+  pub words : List ℤ
+  pub calls : List Call
+  pub at : ℕ
+  pub line : ℕ
+
+-- behind the last call the text ends: 01, "bytes after the last call make their line bad"
+abbrev pub ended : List ℕ → ℕ → ℕ
+ended text at = cond (eqb at (length text)) at lost
+
+-- the four sections in a row, each from where the one before it ended. Nothing is done before all of it is read
+unfoldable pub bodiesOf : List ℕ → Contents → Day
+bodiesOf text c =
+    let n = c .accounts in
+    let p = c .products in
+    let products = productsFrom text (c .at) (c .line) p (freshWords n p) in
+    let accounts = accountsFrom text (products .at) (products .line) p n (products .held) in
+    let positions = positionsFrom text (accounts .at) (accounts .line) n p (c .positions) (record { words = accounts .held; marks = noMarks }) in
+    let calls = callsFrom text (positions .at) (positions .line) p (c .calls) in
+    record {
+      accounts = n;
+      products = p;
+      words = positions .held .words;
+      calls = callsAt text p (positions .at) (c .calls);
+      at = ended text (calls .at);
+      line = calls .line;
+    }
+
+abbrev pub dayOf : List ℕ → Day
+dayOf text = bodiesOf text (contentsOf text)

@@ -1,0 +1,446 @@
+// The day file, read (01, "The day file and the sheet"): the table of contents, the bodies, the calls. Each reader takes a text and a place
+// in it, and gives the next place, or LOST. The number of a line goes up only past a good line, so that the first bad one needs no search.
+pub mod reader;
+
+use lines::LOST;
+use lines::Place;
+use reader::Reader;
+ghost use mathlib.Core.Path.{_≡_};
+ghost use Prim.Native.Nat.{_+_, _*_, _<_, _≤_};
+ghost use lib.IntN.{pos};
+ghost use lib.ListN.{length, replicate};
+ghost use lib.Seq.{sets};
+ghost use Rattle.lines.specs.Lines.{past, placeOf, firstLost};
+ghost use Rattle.dayfile.specs.Calls.{figuresOf, gap, callAt, callsFrom, figure, column};
+ghost use Rattle.dayfile.specs.Day.{ended};
+ghost use Rattle.dayfile.specs.Inside.{Statement, Positioned, givenOf, Modest, Bodied};
+ghost use Rattle.dayfile.specs.Sections.{noMarks, productAt, accountAt, productsFrom, accountsFrom, isOneOf, positionAt, positionsFrom};
+ghost use Rattle.dayfile.specs.Table.{tableOf, contentsOf};
+ghost use Rattle.dayfile.specs.Words.{productWord, accountWord, lengthOf, positionWord};
+ghost use mathlib.Core.List.{_∷_, []};
+
+// A line of the table of contents: its count, and the next line.
+pub struct Counted {
+    pub count: usize,
+    pub next: usize,
+}
+
+// The table of contents: its counts, the place behind it or LOST, and the number of the line there, or of the bad line.
+pub struct Contents {
+    pub products: usize,
+    pub accounts: usize,
+    pub positions: usize,
+    pub calls: usize,
+    pub at: usize,
+    pub line: usize,
+}
+
+// Where the bodies end, or the bad line; and where the calls start.
+pub struct Bodies {
+    pub at: usize,
+    pub line: usize,
+    pub calls_at: usize,
+}
+
+// A product's line: `Y mark price` or `X mark price principal quote`.
+fn product_line(text: &[u8], at: usize, words: &mut [i64], base: usize) -> usize
+    requires { ⌜ base + 5 ≤ length (now words) ⌝ }
+    ensures { λ r. ⌜ (r ≡ productAt (now (text .entry)) at .next) × (now (words .exit) ≡ sets (now (words .entry)) base (productAt (now (text .entry)) at .values)) ⌝ }
+{
+    lines::kind_line(text, at, b"Y ", 2, b"X ", 4, words, base)
+}
+
+// An account's line: `F` or `L`, and its seven figures.
+fn account_line(text: &[u8], at: usize, words: &mut [i64], base: usize) -> usize
+    requires { ⌜ base + 8 ≤ length (now words) ⌝ }
+    ensures { λ r. ⌜ (r ≡ accountAt (now (text .entry)) at .next) × (now (words .exit) ≡ sets (now (words .entry)) base (accountAt (now (text .entry)) at .values)) ⌝ }
+{
+    lines::kind_line(text, at, b"F ", 7, b"L ", 7, words, base)
+}
+
+// The products' lines, up to the first bad one.
+fn products(text: &[u8], from: usize, first: usize, count: usize, words: &mut [i64]) -> Place
+    requires { ⌜ first + count < 18446744073709551616 ⌝ ∗ ⌜ productWord count ≤ length (now words) ⌝ }
+    ensures { λ r. ⌜ (r ≡ placeOf (productsFrom (now (text .entry)) from first count (now (words .entry)))) × (now (words .exit) ≡ productsFrom (now (text .entry)) from first count (now (words .entry)) .held) ⌝ }
+{
+    let mut at = from;
+    let mut line = first;
+    let mut base = 4;
+    let mut j = 0;
+    while j < count {
+        let next = product_line(text, at, words, base);
+        if next == LOST {
+            return Place { at: next, line };
+        }
+        at = next;
+        line += 1;
+        base += 5;
+        j += 1;
+    }
+    Place { at, line }
+}
+
+// The accounts' lines, up to the first bad one.
+fn accounts(
+    text: &[u8],
+    from: usize,
+    first: usize,
+    count: usize,
+    p: usize,
+    words: &mut [i64],
+) -> Place
+    requires { ⌜ first + count < 18446744073709551616 ⌝ ∗ ⌜ p ≤ 16 ⌝ ∗ ⌜ accountWord p count ≤ length (now words) ⌝ }
+    ensures { λ r. ⌜ (r ≡ placeOf (accountsFrom (now (text .entry)) from first p count (now (words .entry)))) × (now (words .exit) ≡ accountsFrom (now (text .entry)) from first p count (now (words .entry)) .held) ⌝ }
+{
+    let wide = 8 + p * 2;
+    let mut at = from;
+    let mut line = first;
+    let mut base = 4 + p * 5;
+    let mut a = 0;
+    while a < count {
+        let next = account_line(text, at, words, base);
+        if next == LOST {
+            return Place { at: next, line };
+        }
+        at = next;
+        line += 1;
+        base += wide;
+        a += 1;
+    }
+    Place { at, line }
+}
+
+// ---- positions
+
+// Whether v is the number of one of n accounts or products.
+pub fn is_one_of(v: i64, n: usize) -> bool
+    ensures { λ r. ⌜ r ≡ isOneOf n v ⌝ }
+{
+    if v < 0 {
+        return false;
+    }
+    let k = whole::size(v) as usize;
+    if k < n {
+        return true;
+    }
+    false
+}
+
+// States a position that was not stated yet. A mark for each position tells a repeat, so that no line is compared with those before it.
+fn state_position(
+    words: &mut [i64],
+    marks: &mut [u8],
+    p: usize,
+    a: usize,
+    j: usize,
+    lots: i64,
+    book: i64,
+    next: usize,
+) -> usize
+    requires { ⌜ a * p + j < length (now marks) ⌝ ∗ ⌜ positionWord p a j + 1 < length (now words) ⌝ }
+    ensures { λ r. ⌜ Statement p a j lots book next (now (words .entry)) (now (marks .entry)) r (now (words .exit)) (now (marks .exit)) ⌝ }
+{
+    let k = a * p + j;
+    if marks[k] != 0 {
+        return LOST;
+    }
+    marks[k] = 1;
+    let at = 4 + p * 5 + a * (8 + p * 2) + 8 + j * 2;
+    words[at] = lots;
+    words[at + 1] = book;
+    next
+}
+
+// A position's line: account, product, lots, book.
+fn position_line(
+    text: &[u8],
+    at: usize,
+    n: usize,
+    p: usize,
+    words: &mut [i64],
+    marks: &mut [u8],
+) -> usize
+    requires { ⌜ n ≤ 64 ⌝ ∗ ⌜ p ≤ 16 ⌝ ∗ ⌜ lengthOf n p ≤ length (now words) ⌝ ∗ ⌜ 1024 ≤ length (now marks) ⌝ }
+    ensures { λ r. ⌜ Positioned (positionAt (now (text .entry)) n p at (record { words = now (words .entry); marks = now (marks .entry) })) r (now (words .exit)) (now (marks .exit)) ⌝ }
+{
+    let a = lines::field_at(text, at, b' ');
+    let at2 = a.next;
+    let j = lines::field_at(text, at2, b' ');
+    let at3 = j.next;
+    let lots = lines::field_at(text, at3, b' ');
+    let at4 = lots.next;
+    let book = lines::field_at(text, at4, b'\n');
+    let account = a.value;
+    let product = j.value;
+    if is_one_of(account, n) {
+        if is_one_of(product, p) {
+            let q = lots.value;
+            let b = book.value;
+            let next = book.next;
+            return state_position(
+                words,
+                marks,
+                p,
+                whole::size(account) as usize,
+                whole::size(product) as usize,
+                q,
+                b,
+                next,
+            );
+        }
+        return LOST;
+    }
+    LOST
+}
+
+// The positions' lines, up to the first bad one.
+fn positions(
+    text: &[u8],
+    from: usize,
+    first: usize,
+    count: usize,
+    n: usize,
+    p: usize,
+    words: &mut [i64],
+    marks: &mut [u8],
+) -> Place
+    requires { ⌜ first + count < 18446744073709551616 ⌝ ∗ ⌜ n ≤ 64 ⌝ ∗ ⌜ p ≤ 16 ⌝ ∗ ⌜ lengthOf n p ≤ length (now words) ⌝ ∗ ⌜ 1024 ≤ length (now marks) ⌝ }
+    ensures { λ r. ⌜ (r ≡ placeOf (positionsFrom (now (text .entry)) from first n p count (record { words = now (words .entry); marks = now (marks .entry) }))) × (now (words .exit) ≡ positionsFrom (now (text .entry)) from first n p count (record { words = now (words .entry); marks = now (marks .entry) }) .held .words) ⌝ }
+{
+    let mut at = from;
+    let mut line = first;
+    let mut i = 0;
+    while i < count {
+        let next = position_line(text, at, n, p, words, marks);
+        if next == LOST {
+            return Place { at: next, line };
+        }
+        at = next;
+        line += 1;
+        i += 1;
+    }
+    Place { at, line }
+}
+
+// ---- the table of contents
+
+// The number of the first of six places that is lost, or 7.
+fn first_lost(a: usize, b: usize, c: usize, d: usize, e: usize, f: usize) -> usize
+    ensures { λ r. ⌜ r ≡ firstLost 1 (a ∷ b ∷ c ∷ d ∷ e ∷ f ∷ []) ⌝ }
+{
+    if a == LOST {
+        return 1;
+    }
+    if b == LOST {
+        return 2;
+    }
+    if c == LOST {
+        return 3;
+    }
+    if d == LOST {
+        return 4;
+    }
+    if e == LOST {
+        return 5;
+    }
+    if f == LOST {
+        return 6;
+    }
+    7
+}
+
+// What the six lines of the table say: where the first and the last ended, and the counts between them.
+fn contents_of(first: usize, p: Counted, n: Counted, m: Counted, c: Counted, end: usize) -> Contents
+    ensures { λ r. ⌜ r ≡ tableOf first p n m c end ⌝ }
+{
+    let line = first_lost(first, p.next, n.next, m.next, c.next, end);
+    Contents {
+        products: p.count,
+        accounts: n.count,
+        positions: m.count,
+        calls: c.count,
+        at: end,
+        line,
+    }
+}
+
+// The table of contents: six lines in a row, each read where the one before it ended. Its words are compared byte for byte.
+pub fn read_contents(text: &[u8]) -> Contents
+    ensures { λ r. ⌜ r ≡ contentsOf (now (text .entry)) ⌝ }
+{
+    let r = Reader::new(text);
+    let first = r.header();
+    let p = r.moved(first).products();
+    let n = r.moved(p.next).accounts();
+    let m = r.moved(n.next).positions();
+    let c = r.moved(m.next).calls();
+    let end = r.moved(c.next).end();
+    contents_of(first, p, n, m, c, end)
+}
+
+// ---- calls
+
+// How many figures follow a call's letter; 65, more than any call has, behind a byte that begins no call.
+pub fn figures_of(p: usize, letter: u8) -> usize
+    requires { ⌜ p ≤ 16 ⌝ }
+    ensures { λ r. ⌜ r ≡ figuresOf p letter ⌝ }
+{
+    if letter == b'D' {
+        return 2;
+    }
+    if letter == b'W' {
+        return 2;
+    }
+    if letter == b'G' {
+        return 3;
+    }
+    if letter == b'B' {
+        return 0;
+    }
+    if letter == b'S' {
+        return 0;
+    }
+    if letter == b'T' {
+        return 5;
+    }
+    if letter == b'C' {
+        return p * 4;
+    }
+    65
+}
+
+// The place behind what stands between a letter and its k figures.
+fn past_gap(text: &[u8], at: usize, k: usize) -> usize
+    ensures { λ r. ⌜ r ≡ past (now (text .entry)) at (gap k) ⌝ }
+{
+    if k == 0 {
+        return lines::past_word(text, at, b"\n");
+    }
+    lines::past_word(text, at, b" ")
+}
+
+// A call's line: its figures.
+pub fn call_line(text: &[u8], p: usize, at: usize, figures: &mut [i64]) -> usize
+    requires { ⌜ p ≤ 16 ⌝ ∗ ⌜ 64 ≤ length (now figures) ⌝ }
+    ensures { λ r. ⌜ (r ≡ callAt (now (text .entry)) p at .next) × (now (figures .exit) ≡ sets (now (figures .entry)) 0 (callAt (now (text .entry)) p at .values)) ⌝ }
+{
+    let letter = lines::byte_at(text, at);
+    let k = figures_of(p, letter);
+    if k > 64 {
+        return LOST;
+    }
+    let from = past_gap(text, at + 1, k);
+    lines::fields(text, from, k, figures, 0)
+}
+
+// The first pass over the calls: are their lines well formed?
+fn calls(
+    text: &[u8],
+    from: usize,
+    first: usize,
+    count: usize,
+    p: usize,
+    figures: &mut [i64],
+) -> Place
+    requires { ⌜ first + count < 18446744073709551616 ⌝ ∗ ⌜ p ≤ 16 ⌝ ∗ ⌜ 64 ≤ length (now figures) ⌝ }
+    ensures { λ r. ⌜ r ≡ placeOf (callsFrom (now (text .entry)) from first p count) ⌝ }
+{
+    let mut at = from;
+    let mut line = first;
+    let mut i = 0;
+    while i < count {
+        let next = call_line(text, p, at, figures);
+        if next == LOST {
+            return Place { at: next, line };
+        }
+        at = next;
+        line += 1;
+        i += 1;
+    }
+    Place { at, line }
+}
+
+// ---- the bodies
+
+// The text ends behind the last call.
+fn end_of(text: &[u8], at: usize) -> usize
+    ensures { λ r. ⌜ r ≡ ended (now (text .entry)) at ⌝ }
+{
+    if at == text.len() { at } else { LOST }
+}
+
+// The bodies, into words that are all 0.
+pub fn bodies_into(
+    text: &[u8],
+    c: Contents,
+    words: &mut [i64],
+    marks: &mut [u8],
+    figures: &mut [i64],
+) -> Bodies
+    requires { ⌜ Modest c ⌝ ∗ ⌜ now words ≡ replicate (lengthOf (c .accounts) (c .products)) (pos 0) ⌝ ∗ ⌜ now marks ≡ noMarks ⌝ ∗ ⌜ 64 ≤ length (now figures) ⌝ }
+    ensures { λ r. ⌜ Bodied (now (text .entry)) c r (now (words .exit)) ⌝ }
+{
+    let n = c.accounts;
+    let p = c.products;
+    let m = c.positions;
+    let k = c.calls;
+    let at = c.at;
+    let line = c.line;
+    words[0] = n as i64;
+    words[1] = p as i64;
+    let a = products(text, at, line, p, words);
+    let at2 = a.at;
+    let line2 = a.line;
+    let b = accounts(text, at2, line2, n, p, words);
+    let at3 = b.at;
+    let line3 = b.line;
+    let d = positions(text, at3, line3, m, n, p, words, marks);
+    let at4 = d.at;
+    let line4 = d.line;
+    let e = calls(text, at4, line4, k, p, figures);
+    let at5 = e.at;
+    let line5 = e.line;
+    let end = end_of(text, at5);
+    Bodies {
+        at: end,
+        line: line5,
+        calls_at: at4,
+    }
+}
+
+// How many figures a call's line gave.
+pub fn given_of(p: usize, letter: u8) -> usize
+    requires { ⌜ p ≤ 16 ⌝ }
+    ensures { λ r. ⌜ (r ≡ givenOf p letter) × (r ≤ 64) ⌝ }
+{
+    let k = figures_of(p, letter);
+    if k > 64 {
+        return 0;
+    }
+    k
+}
+
+// ---- a close's columns
+
+// A figure of a call, and 0 past the last.
+pub fn figure_at(figures: &[i64], i: usize) -> i64
+    ensures { λ r. ⌜ r ≡ figure (now (figures .entry)) i ⌝ }
+{
+    if i < figures.len() {
+        return figures[i];
+    }
+    0
+}
+
+// Every fourth figure from the k-th on, for p products.
+pub fn column_into(figures: &[i64], k: usize, p: usize, out: &mut [i64])
+    requires { ⌜ k < 4 ⌝ ∗ ⌜ p ≤ 16 ⌝ ∗ ⌜ p ≤ length (now out) ⌝ }
+    ensures { λ _. ⌜ now (out .exit) ≡ sets (now (out .entry)) 0 (column k p (now (figures .entry))) ⌝ }
+{
+    let mut j = 0;
+    while j < p {
+        let v = figure_at(figures, j * 4 + k);
+        out[j] = v;
+        j += 1;
+    }
+}

@@ -1,0 +1,139 @@
+// The reader of a day file (01: "The reader is a view that holds the text and its place"), and the lines of the table of contents that are
+// read through it. What is read of a line is a function of a text and a place; the view has a thin function for each.
+use super::Counted;
+use lines::LOST;
+ghost use mathlib.Core.Path.{_≡_};
+ghost use Rattle.dayfile.specs.Table.{countLine, pastHeader, productsCount, accountsCount, positionsCount, callsCount, pastEnd};
+
+// ---- the lines of the table, at a place of a text
+
+// A word and its count.
+fn count_line(text: &[u8], at: usize, word: &[u8], low: usize, high: usize) -> Counted
+    ensures { λ r. ⌜ r ≡ countLine (now (text .entry)) at (now (word .entry)) low high ⌝ }
+{
+    let f = lines::field_at(text, lines::past_word(text, at, word), b'\n');
+    let v = f.value;
+    if v < 0 {
+        return Counted {
+            count: 0,
+            next: LOST,
+        };
+    }
+    let k = whole::size(v) as usize;
+    if k < low {
+        return Counted {
+            count: 0,
+            next: LOST,
+        };
+    }
+    if k > high {
+        return Counted {
+            count: 0,
+            next: LOST,
+        };
+    }
+    Counted {
+        count: k,
+        next: f.next,
+    }
+}
+
+fn header_at(text: &[u8], at: usize) -> usize
+    ensures { λ r. ⌜ r ≡ pastHeader (now (text .entry)) at ⌝ }
+{
+    lines::past_word(text, at, b"FXDAY\n")
+}
+
+fn products_at(text: &[u8], at: usize) -> Counted
+    ensures { λ r. ⌜ r ≡ productsCount (now (text .entry)) at ⌝ }
+{
+    count_line(text, at, b"PRODUCTS ", 1, 16)
+}
+
+fn accounts_at(text: &[u8], at: usize) -> Counted
+    ensures { λ r. ⌜ r ≡ accountsCount (now (text .entry)) at ⌝ }
+{
+    count_line(text, at, b"ACCOUNTS ", 1, 64)
+}
+
+fn positions_at(text: &[u8], at: usize) -> Counted
+    ensures { λ r. ⌜ r ≡ positionsCount (now (text .entry)) at ⌝ }
+{
+    count_line(text, at, b"POSITIONS ", 0, 9223372036854775807)
+}
+
+fn calls_at(text: &[u8], at: usize) -> Counted
+    ensures { λ r. ⌜ r ≡ callsCount (now (text .entry)) at ⌝ }
+{
+    count_line(text, at, b"CALLS ", 0, 1000)
+}
+
+fn end_at(text: &[u8], at: usize) -> usize
+    ensures { λ r. ⌜ r ≡ pastEnd (now (text .entry)) at ⌝ }
+{
+    lines::past_word(text, at, b"END\n")
+}
+
+// ---- the view
+
+pub struct Reader<'a> {
+    pub text: &'a [u8],
+    pub at: usize,
+}
+
+impl<'a> Reader<'a> {
+    // A reader at the start of a text.
+    pub fn new(text: &'a [u8]) -> Reader<'a>
+        ensures { λ r. ⌜ (r .text ≡ text .entry) × (r .at ≡ 0) ⌝ }
+    {
+        Reader { text, at: 0 }
+    }
+
+    // The same text, at another place.
+    pub fn moved(self, at: usize) -> Reader<'a>
+        ensures { λ r. ⌜ (r .text ≡ self .entry .text) × (r .at ≡ at) ⌝ }
+    {
+        Reader {
+            text: self.text,
+            at,
+        }
+    }
+
+    // The place behind `FXDAY`.
+    pub fn header(self) -> usize
+        ensures { λ s. ⌜ s ≡ pastHeader (now (self .entry .text)) (self .entry .at) ⌝ }
+    {
+        header_at(self.text, self.at)
+    }
+
+    pub fn products(self) -> Counted
+        ensures { λ s. ⌜ s ≡ productsCount (now (self .entry .text)) (self .entry .at) ⌝ }
+    {
+        products_at(self.text, self.at)
+    }
+
+    pub fn accounts(self) -> Counted
+        ensures { λ s. ⌜ s ≡ accountsCount (now (self .entry .text)) (self .entry .at) ⌝ }
+    {
+        accounts_at(self.text, self.at)
+    }
+
+    pub fn positions(self) -> Counted
+        ensures { λ s. ⌜ s ≡ positionsCount (now (self .entry .text)) (self .entry .at) ⌝ }
+    {
+        positions_at(self.text, self.at)
+    }
+
+    pub fn calls(self) -> Counted
+        ensures { λ s. ⌜ s ≡ callsCount (now (self .entry .text)) (self .entry .at) ⌝ }
+    {
+        calls_at(self.text, self.at)
+    }
+
+    // The place behind `END`.
+    pub fn end(self) -> usize
+        ensures { λ s. ⌜ s ≡ pastEnd (now (self .entry .text)) (self .entry .at) ⌝ }
+    {
+        end_at(self.text, self.at)
+    }
+}

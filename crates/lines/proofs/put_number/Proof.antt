@@ -1,0 +1,75 @@
+-- The sign decides which of the two cases of a decimal number is written.
+use mathlib.Core.Path.{_≡_, _∙_, ap}
+use mathlib.Core.List.{List, _∷_}
+use Prim.Native.Nat.{ℕ, _+_}
+use native.Mathlib.Numerals.{add-one}
+use native.Mathlib.Omega.{arith}
+use lib.ListN.{length, length-set}
+use lib.Seq.{sets}
+use mir.Syntax.{w64}
+use mir.Facts.{toZ-ofZ}
+use Rattle.lines.specs.Print.{natural, decimal}
+use Rattle.lines.proofs.PrintLaws.{decimal-below, decimal-above}
+use borrow.Author.Needs.{needs}
+use Rattle.lines.proofs.put_number.Statement.{statement}
+use Rattle.lines.proofs.put_number.Tie as tie
+
+slice-write-out : tie.Need-slice-write-out
+slice-write-out c = search needs
+
+add-put-digits : tie.Need-add-put-digits
+add-put-digits c = search needs
+
+size-requires : tie.Need-size-requires
+size-requires c κs = search needs
+
+put-digits-requires : tie.Need-put-digits-requires
+put-digits-requires c κs = simp length-set (omega arith)
+
+same-length : tie.Need-same-length
+same-length c = c .before .before .put-digits .kept .0 ∙ simp length-set
+
+returns : tie.Need-returns
+returns c =
+    let a = c .before .before .before .before .before .before .before .args in
+    let x-is = toZ-ofZ {w = w64} (c .before .before .before .before .before .before .before .fits .x) in
+    let d = c .before .before .put-digits in
+    let e : 45 ∷ natural (c .before .before .before .size .result) ≡ decimal (a .x) =
+    rw (c .before .before .before .size .ensures, x-is) (decimal-below (a .x) (simp x-is at (c .before .before .before .before .before .if1 .taken))) in
+    let f : a .at + 1 + length (natural (c .before .before .before .size .result)) ≡ a .at + length (45 ∷ natural (c .before .before .before .size .result)) = omega arith in (
+      d .ensures .0 ∙ f ∙ ap (λ (l : List ℕ). a .at + length l) e,
+      d .ensures .1 ∙ rw (add-one (a .at)) (ap (λ (l : List ℕ). sets (a .out .now) (a .at) l) e),
+    )
+
+size-requires-2 : tie.Need-size-requires-2
+size-requires-2 c κs = search needs
+
+put-digits-requires-2 : tie.Need-put-digits-requires-2
+put-digits-requires-2 c κs = search needs
+
+same-length-2 : tie.Need-same-length-2
+same-length-2 c = search needs
+
+returns-2 : tie.Need-returns-2
+returns-2 c =
+    let a = c .before .before .before .before .before .before .before .args in
+    let x-is = toZ-ofZ {w = w64} (c .before .before .before .before .before .before .before .fits .x) in
+    let d = c .before .before .put-digits2 in
+    let e : natural (c .before .before .before .size2 .result) ≡ decimal (a .x) =
+    rw (c .before .before .before .size2 .ensures, x-is) (decimal-above (a .x) (simp x-is at (c .before .before .before .before .before .if1 .left))) in
+    (d .ensures .0 ∙ ap (λ (l : List ℕ). a .at + length l) e, d .ensures .1 ∙ ap (λ (l : List ℕ). sets (a .out .now) (a .at) l) e)
+
+pub put-number-spec : {M : Type 1} → statement M
+put-number-spec =
+    tie.close
+    (tie.spec
+    slice-write-out
+    add-put-digits
+    size-requires
+    put-digits-requires
+    same-length
+    returns
+    size-requires-2
+    put-digits-requires-2
+    same-length-2
+    returns-2)
