@@ -220,12 +220,6 @@ fn keep(answers: &mut [i64], i: u64, answer: Answer) {
     answers[at + 3] = c;
 }
 
-fn differ(x: i64, y: i64) -> u64
-    ensures { λ r. ⌜ r ≤ 1 ⌝ }
-{
-    if x != y { 1 } else { 0 }
-}
-
 // How many of the four words differ from the answer.
 fn unlike(answers: &[i64], i: u64, answer: Answer) -> u64
     ensures { λ r. ⌜ r ≤ 4 ⌝ }
@@ -241,10 +235,10 @@ fn unlike(answers: &[i64], i: u64, answer: Answer) -> u64
     let a = answer.one;
     let b = answer.two;
     let c = answer.three;
-    differ(answers[at], n)
-        + differ(answers[at + 1], a)
-        + differ(answers[at + 2], b)
-        + differ(answers[at + 3], c)
+    tally::differ(answers[at], n)
+        + tally::differ(answers[at + 1], a)
+        + tally::differ(answers[at + 2], b)
+        + tally::differ(answers[at + 3], c)
 }
 
 // ---- the history as it came, a stretch of it, its attempts
@@ -356,18 +350,4 @@ pub fn of_stretch(seed: u64, which: u64) -> u64 {
 
 pub fn unsound(words: &[i64]) -> u64 {
     if soundness::sound(words) { 0 } else { 1 }
-}
-
-// How many words of two lists of one length differ.
-pub fn altered(a: &[i64], b: &[i64]) -> u64 {
-    if a.len() != b.len() {
-        return 1;
-    }
-    let mut count: u64 = 0;
-    let mut i = 0;
-    while i < a.len() {
-        count += differ(a[i], b[i]);
-        i += 1;
-    }
-    count
 }

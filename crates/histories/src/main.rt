@@ -31,7 +31,7 @@ fn differences(seed: u64) -> u64 {
     let run = events::stretch(&mut again, &answers, seed, events::RUN);
     let late = events::stretch(&mut again, &answers, seed, events::LATE);
     let idle = events::attempts(&answers, seed);
-    bad % 64 + early % 64 + run % 64 + late % 64 + idle % 64 + events::altered(&words, &again) % 128
+    bad % 64 + early % 64 + run % 64 + late % 64 + idle % 64 + tally::altered(&words, &again) % 128
 }
 
 fn total(which: u64) -> u64 {

@@ -1,7 +1,6 @@
 // A whole day and the next morning on one ledger: trades, a run with requests between its transfers, closes, and every refusal on the way. A
 // line for each call: what was asked, what came, and what document 01 gives, worked out apart; at the end the words that differ from those of
 // 01, counted.
-ghost use Prim.Native.Nat.{_≤_};
 use libc::STDOUT_FILENO;
 
 mod lines;
@@ -264,26 +263,6 @@ fn second_close(words: &mut [i64]) {
     question(words, 2, 0, 1000043303797, 0, 0);
 }
 
-fn differ(x: i64, y: i64) -> u64
-    ensures { λ r. ⌜ r ≤ 1 ⌝ }
-{
-    if x != y { 1 } else { 0 }
-}
-
-// How many words of two lists of one length differ.
-fn altered(a: &[i64], b: &[i64]) -> u64 {
-    if a.len() != b.len() {
-        return 1;
-    }
-    let mut count: u64 = 0;
-    let mut i = 0;
-    while i < a.len() {
-        count += differ(a[i], b[i]);
-        i += 1;
-    }
-    count
-}
-
 fn main() {
     let mut words = first_words();
     opening(&mut words);
@@ -299,6 +278,6 @@ fn main() {
     second_close(&mut words);
     let last = last_words();
     io::write_all(STDOUT_FILENO, b"words that differ: ");
-    io::print_decimal(STDOUT_FILENO, altered(&words, &last));
+    io::print_decimal(STDOUT_FILENO, tally::altered(&words, &last));
     io::write_all(STDOUT_FILENO, b"\n");
 }

@@ -1,7 +1,6 @@
 // A sound ledger with one word spoiled, in each way that 01, "The ledger's words", names: every call on it answers 1 and leaves every word.
 // A line for each: its name, the numbers that deposit, withdrawal, guarantee, question, trade, begin and step answer, and the count of words
 // that they altered.
-ghost use Prim.Native.Nat.{_≤_};
 use libc::STDOUT_FILENO;
 
 const SIZE: usize = 47;
@@ -72,26 +71,6 @@ fn number(x: u64) {
     io::print_decimal(STDOUT_FILENO, x);
 }
 
-fn differ(x: i64, y: i64) -> u64
-    ensures { λ r. ⌜ r ≤ 1 ⌝ }
-{
-    if x != y { 1 } else { 0 }
-}
-
-// How many words of two lists of one length differ.
-fn altered(a: &[i64], b: &[i64]) -> u64 {
-    if a.len() != b.len() {
-        return 1;
-    }
-    let mut count: u64 = 0;
-    let mut i = 0;
-    while i < a.len() {
-        count += differ(a[i], b[i]);
-        i += 1;
-    }
-    count
-}
-
 // The seven calls on the words, one after another.
 fn requests(words: &mut [i64]) {
     number(ledger::deposit(words, 0, 1).number);
@@ -124,7 +103,7 @@ fn show(name: &[u8], words: [i64; 47], size: usize) {
     text(b":");
     calls(&mut now, size);
     text(b",");
-    number(altered(&now, &words));
+    number(tally::altered(&now, &words));
     text(b"\n");
 }
 

@@ -3,8 +3,8 @@ use Prim.Native.Nat.{_≤_, _-_}
 use native.Mathlib.Omega.{arith}
 use borrow.Author.Needs.{needs}
 use lib.ListN.{length}
-use Rattle.oneday.proofs.altered.Statement.{statement}
-use Rattle.oneday.proofs.altered.Tie as tie
+use Rattle.tally.proofs.altered.Statement.{statement}
+use Rattle.tally.proofs.altered.Tie as tie
 
 abbrev Inv-loop : tie.InvT-loop
 Inv-loop a b count₀ i₀ count i = (i ≤ length a) × (count ≤ i)

@@ -1,0 +1,22 @@
+// What the programs of the gate count by: how many words of two lists differ.
+ghost use Prim.Native.Nat.{_≤_};
+
+pub fn differ(x: i64, y: i64) -> u64
+    ensures { λ r. ⌜ r ≤ 1 ⌝ }
+{
+    if x != y { 1 } else { 0 }
+}
+
+// How many words of two lists of one length differ; 1 where they have not one length.
+pub fn altered(a: &[i64], b: &[i64]) -> u64 {
+    if a.len() != b.len() {
+        return 1;
+    }
+    let mut count: u64 = 0;
+    let mut i = 0;
+    while i < a.len() {
+        count += differ(a[i], b[i]);
+        i += 1;
+    }
+    count
+}
