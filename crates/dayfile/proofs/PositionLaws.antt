@@ -1,17 +1,13 @@
 -- A position's line, by the four fields that were read; the table of contents, by its six lines. Assumes nothing.
 use mathlib.Core.Path.{_≡_, refl}
 use mathlib.Core.Bool.{true, false, cond}
-use mathlib.Core.List.{List, [], _∷_}
+use mathlib.Core.List.{List}
 use Prim.Native.Nat.{ℕ}
 use lib.IntN.{ℤ, natAbs}
-use Rattle.lines.specs.Bytes.{bytes}
-use Rattle.lines.specs.Lines.{lost, past, fieldAt, firstLost}
+use Rattle.lines.specs.Lines.{lost, fieldAt}
 use Rattle.dayfile.specs.Inside.{Positioned}
 use Rattle.dayfile.specs.Sections.{isOneOf, Stated, stated, positionAt}
-use Rattle.dayfile.specs.Table.{countLine, contentsOf}
 use Rattle.lines.specs.declared.Field.{Field}
-use Rattle.dayfile.specs.declared.Counted.{Counted}
-use Rattle.dayfile.specs.declared.Contents.{Contents}
 
 module _ (text : List ℕ) (n p at : ℕ) (s : Stated) (a j lots book : Field) (ea : a ≡ fieldAt text at 32) (ej : j ≡ fieldAt text (a .next) 32) (el : lots ≡ fieldAt text (j .next) 32) (eb : book ≡ fieldAt text (lots .next) 10) where
   position-is : positionAt text n p at s ≡ cond (isOneOf n (a .value)) (cond (isOneOf p (j .value)) (stated p (natAbs (a .value)) (natAbs (j .value)) (lots .value) (book .value) (book .next) s) (record { next = lost; held = s })) (record { next = lost; held = s })

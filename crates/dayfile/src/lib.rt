@@ -1,23 +1,25 @@
-// The day file, read (01, "The day file and the sheet"): the table of contents, the bodies, the calls. Each reader takes a text and a place
-// in it, and gives the next place, or LOST. The number of a line goes up only past a good line, so that the first bad one needs no search.
+// The day file, read (01, "The day file and the sheet"): the table of contents, through the view of `reader`; the bodies, of which `sections`
+// has all but the calls. What reads a line takes a text and a place in it, and gives the next place, or LOST. The number of a line goes up only
+// past a good line, so that the first bad one needs no search.
 pub mod reader;
+mod sections;
 
 use lines::LOST;
 use lines::Place;
 use reader::Reader;
 ghost use mathlib.Core.Path.{_≡_};
-ghost use Prim.Native.Nat.{_+_, _*_, _<_, _≤_};
+ghost use mathlib.Core.List.{_∷_, []};
+ghost use Prim.Native.Nat.{_+_, _<_, _≤_};
 ghost use lib.IntN.{pos};
 ghost use lib.ListN.{length, replicate};
 ghost use lib.Seq.{sets};
 ghost use Rattle.lines.specs.Lines.{past, placeOf, firstLost};
 ghost use Rattle.dayfile.specs.Calls.{figuresOf, gap, callAt, callsFrom, figure, column};
 ghost use Rattle.dayfile.specs.Day.{ended};
-ghost use Rattle.dayfile.specs.Inside.{Statement, Positioned, givenOf, Modest, Bodied};
-ghost use Rattle.dayfile.specs.Sections.{noMarks, productAt, accountAt, productsFrom, accountsFrom, isOneOf, positionAt, positionsFrom};
+ghost use Rattle.dayfile.specs.Inside.{givenOf, Modest, Bodied};
+ghost use Rattle.dayfile.specs.Sections.{noMarks, isOneOf};
 ghost use Rattle.dayfile.specs.Table.{tableOf, contentsOf};
-ghost use Rattle.dayfile.specs.Words.{productWord, accountWord, lengthOf, positionWord};
-ghost use mathlib.Core.List.{_∷_, []};
+ghost use Rattle.dayfile.specs.Words.{lengthOf};
 
 // A line of the table of contents: its count, and the next line.
 pub struct Counted {
@@ -40,186 +42,6 @@ pub struct Bodies {
     pub at: usize,
     pub line: usize,
     pub calls_at: usize,
-}
-
-// A product's line: `Y mark price` or `X mark price principal quote`.
-fn product_line(text: &[u8], at: usize, words: &mut [i64], base: usize) -> usize
-    requires { ⌜ base + 5 ≤ length (now words) ⌝ }
-    ensures { λ r. ⌜ (r ≡ productAt (now (text .entry)) at .next) × (now (words .exit) ≡ sets (now (words .entry)) base (productAt (now (text .entry)) at .values)) ⌝ }
-{
-    lines::kind_line(text, at, b"Y ", 2, b"X ", 4, words, base)
-}
-
-// An account's line: `F` or `L`, and its seven figures.
-fn account_line(text: &[u8], at: usize, words: &mut [i64], base: usize) -> usize
-    requires { ⌜ base + 8 ≤ length (now words) ⌝ }
-    ensures { λ r. ⌜ (r ≡ accountAt (now (text .entry)) at .next) × (now (words .exit) ≡ sets (now (words .entry)) base (accountAt (now (text .entry)) at .values)) ⌝ }
-{
-    lines::kind_line(text, at, b"F ", 7, b"L ", 7, words, base)
-}
-
-// The products' lines, up to the first bad one.
-fn products(text: &[u8], from: usize, first: usize, count: usize, words: &mut [i64]) -> Place
-    requires { ⌜ first + count < 18446744073709551616 ⌝ ∗ ⌜ productWord count ≤ length (now words) ⌝ }
-    ensures { λ r. ⌜ (r ≡ placeOf (productsFrom (now (text .entry)) from first count (now (words .entry)))) × (now (words .exit) ≡ productsFrom (now (text .entry)) from first count (now (words .entry)) .held) ⌝ }
-{
-    let mut at = from;
-    let mut line = first;
-    let mut base = 4;
-    let mut j = 0;
-    while j < count {
-        let next = product_line(text, at, words, base);
-        if next == LOST {
-            return Place { at: next, line };
-        }
-        at = next;
-        line += 1;
-        base += 5;
-        j += 1;
-    }
-    Place { at, line }
-}
-
-// The accounts' lines, up to the first bad one.
-fn accounts(
-    text: &[u8],
-    from: usize,
-    first: usize,
-    count: usize,
-    p: usize,
-    words: &mut [i64],
-) -> Place
-    requires { ⌜ first + count < 18446744073709551616 ⌝ ∗ ⌜ p ≤ 16 ⌝ ∗ ⌜ accountWord p count ≤ length (now words) ⌝ }
-    ensures { λ r. ⌜ (r ≡ placeOf (accountsFrom (now (text .entry)) from first p count (now (words .entry)))) × (now (words .exit) ≡ accountsFrom (now (text .entry)) from first p count (now (words .entry)) .held) ⌝ }
-{
-    let wide = 8 + p * 2;
-    let mut at = from;
-    let mut line = first;
-    let mut base = 4 + p * 5;
-    let mut a = 0;
-    while a < count {
-        let next = account_line(text, at, words, base);
-        if next == LOST {
-            return Place { at: next, line };
-        }
-        at = next;
-        line += 1;
-        base += wide;
-        a += 1;
-    }
-    Place { at, line }
-}
-
-// ---- positions
-
-// Whether v is the number of one of n accounts or products.
-pub fn is_one_of(v: i64, n: usize) -> bool
-    ensures { λ r. ⌜ r ≡ isOneOf n v ⌝ }
-{
-    if v < 0 {
-        return false;
-    }
-    let k = whole::size(v) as usize;
-    if k < n {
-        return true;
-    }
-    false
-}
-
-// States a position that was not stated yet. A mark for each position tells a repeat, so that no line is compared with those before it.
-fn state_position(
-    words: &mut [i64],
-    marks: &mut [u8],
-    p: usize,
-    a: usize,
-    j: usize,
-    lots: i64,
-    book: i64,
-    next: usize,
-) -> usize
-    requires { ⌜ a * p + j < length (now marks) ⌝ ∗ ⌜ positionWord p a j + 1 < length (now words) ⌝ }
-    ensures { λ r. ⌜ Statement p a j lots book next (now (words .entry)) (now (marks .entry)) r (now (words .exit)) (now (marks .exit)) ⌝ }
-{
-    let k = a * p + j;
-    if marks[k] != 0 {
-        return LOST;
-    }
-    marks[k] = 1;
-    let at = 4 + p * 5 + a * (8 + p * 2) + 8 + j * 2;
-    words[at] = lots;
-    words[at + 1] = book;
-    next
-}
-
-// A position's line: account, product, lots, book.
-fn position_line(
-    text: &[u8],
-    at: usize,
-    n: usize,
-    p: usize,
-    words: &mut [i64],
-    marks: &mut [u8],
-) -> usize
-    requires { ⌜ n ≤ 64 ⌝ ∗ ⌜ p ≤ 16 ⌝ ∗ ⌜ lengthOf n p ≤ length (now words) ⌝ ∗ ⌜ 1024 ≤ length (now marks) ⌝ }
-    ensures { λ r. ⌜ Positioned (positionAt (now (text .entry)) n p at (record { words = now (words .entry); marks = now (marks .entry) })) r (now (words .exit)) (now (marks .exit)) ⌝ }
-{
-    let a = lines::field_at(text, at, b' ');
-    let at2 = a.next;
-    let j = lines::field_at(text, at2, b' ');
-    let at3 = j.next;
-    let lots = lines::field_at(text, at3, b' ');
-    let at4 = lots.next;
-    let book = lines::field_at(text, at4, b'\n');
-    let account = a.value;
-    let product = j.value;
-    if is_one_of(account, n) {
-        if is_one_of(product, p) {
-            let q = lots.value;
-            let b = book.value;
-            let next = book.next;
-            return state_position(
-                words,
-                marks,
-                p,
-                whole::size(account) as usize,
-                whole::size(product) as usize,
-                q,
-                b,
-                next,
-            );
-        }
-        return LOST;
-    }
-    LOST
-}
-
-// The positions' lines, up to the first bad one.
-fn positions(
-    text: &[u8],
-    from: usize,
-    first: usize,
-    count: usize,
-    n: usize,
-    p: usize,
-    words: &mut [i64],
-    marks: &mut [u8],
-) -> Place
-    requires { ⌜ first + count < 18446744073709551616 ⌝ ∗ ⌜ n ≤ 64 ⌝ ∗ ⌜ p ≤ 16 ⌝ ∗ ⌜ lengthOf n p ≤ length (now words) ⌝ ∗ ⌜ 1024 ≤ length (now marks) ⌝ }
-    ensures { λ r. ⌜ (r ≡ placeOf (positionsFrom (now (text .entry)) from first n p count (record { words = now (words .entry); marks = now (marks .entry) }))) × (now (words .exit) ≡ positionsFrom (now (text .entry)) from first n p count (record { words = now (words .entry); marks = now (marks .entry) }) .held .words) ⌝ }
-{
-    let mut at = from;
-    let mut line = first;
-    let mut i = 0;
-    while i < count {
-        let next = position_line(text, at, n, p, words, marks);
-        if next == LOST {
-            return Place { at: next, line };
-        }
-        at = next;
-        line += 1;
-        i += 1;
-    }
-    Place { at, line }
 }
 
 // ---- the table of contents
@@ -362,6 +184,20 @@ fn calls(
 
 // ---- the bodies
 
+// Whether v is the number of one of n accounts or products.
+pub fn is_one_of(v: i64, n: usize) -> bool
+    ensures { λ r. ⌜ r ≡ isOneOf n v ⌝ }
+{
+    if v < 0 {
+        return false;
+    }
+    let k = whole::size(v) as usize;
+    if k < n {
+        return true;
+    }
+    false
+}
+
 // The text ends behind the last call.
 fn end_of(text: &[u8], at: usize) -> usize
     ensures { λ r. ⌜ r ≡ ended (now (text .entry)) at ⌝ }
@@ -388,13 +224,13 @@ pub fn bodies_into(
     let line = c.line;
     words[0] = n as i64;
     words[1] = p as i64;
-    let a = products(text, at, line, p, words);
+    let a = sections::products(text, at, line, p, words);
     let at2 = a.at;
     let line2 = a.line;
-    let b = accounts(text, at2, line2, n, p, words);
+    let b = sections::accounts(text, at2, line2, n, p, words);
     let at3 = b.at;
     let line3 = b.line;
-    let d = positions(text, at3, line3, m, n, p, words, marks);
+    let d = sections::positions(text, at3, line3, m, n, p, words, marks);
     let at4 = d.at;
     let line4 = d.line;
     let e = calls(text, at4, line4, k, p, figures);

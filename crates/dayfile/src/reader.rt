@@ -44,6 +44,7 @@ fn header_at(text: &[u8], at: usize) -> usize
     lines::past_word(text, at, b"FXDAY\n")
 }
 
+// The words and the bounds are the paper's: "accounts n, products p 1..64, 1..16", "calls 0..1,000, positions 0 or more".
 fn products_at(text: &[u8], at: usize) -> Counted
     ensures { λ r. ⌜ r ≡ productsCount (now (text .entry)) at ⌝ }
 {
@@ -76,6 +77,7 @@ fn end_at(text: &[u8], at: usize) -> usize
 
 // ---- the view
 
+// A text, and a place in it.
 pub struct Reader<'a> {
     pub text: &'a [u8],
     pub at: usize,
@@ -106,6 +108,7 @@ impl<'a> Reader<'a> {
         header_at(self.text, self.at)
     }
 
+    // The counts of the four sections, in the order of the table.
     pub fn products(self) -> Counted
         ensures { λ s. ⌜ s ≡ productsCount (now (self .entry .text)) (self .entry .at) ⌝ }
     {

@@ -1,5 +1,4 @@
 -- The line is that of the first place that is lost, by the contract of `first_lost`; the rest is copied.
-use mathlib.Core.Path.{ap}
 use borrow.Author.Needs.{needs}
 use Rattle.dayfile.proofs.contents_of.Statement.{statement}
 use Rattle.dayfile.proofs.contents_of.Tie as tie

@@ -41,8 +41,9 @@ use Rattle.dayfile.specs.declared.Contents.{Contents}
 use Rattle.dayfile.proofs.ContentsLaws.{contents-are}
 use Rattle.dayfile.proofs.View.{text, decl, laws, low, held, placed}
 use Rattle.dayfile.proofs.Thin.{Says}
+use Rattle.dayfile.proofs.Called.{Of, called-low}
 use Rattle.dayfile.proofs.Reading as R
-use Rattle.dayfile.proofs.Reading.{Of, MovedOf, ThinOf, called}
+use Rattle.dayfile.proofs.Reading.{MovedOf, ThinOf}
 use Rattle.dayfile.proofs.Counted as K
 use Rattle.dayfile.proofs.Counted.Laws as K′
 use Rattle.dayfile.proofs.Contents as S
@@ -116,9 +117,6 @@ module _ {M : Type 1} (𝓤 : URA M) (H : Heap 𝓤) (A : Atoms 𝓤) (W : Given
     k-table : Triple 𝓤 (C table-def.name) Table
 
   module _ (κ : Lft) (share : Share) (s : RefT (List ℕ)) where
-    abbrev own : Reader → Item 𝓤
-    own = R.own 𝓤 H A W mem run κ share
-
     abbrev token : Item 𝓤
     token = R.token 𝓤 H A W mem run κ share
 
@@ -142,7 +140,7 @@ module _ {M : Type 1} (𝓤 : URA M) (H : Heap 𝓤) (A : Atoms 𝓤) (W : Given
         move ! (1 ∷ []) $ fsplit ! $ use1 W (‵ Own ⊛ ‵ Own) (shr-slice-copy 𝓤 H A W (named 0) κ u8 .twice s (low s ∷ [])) $ split ! $
         move ! (0 ∷ 2 ∷ []) $ fjoin ! $ move ! (2 ∷ 0 ∷ []) $ use2 W (raw (New .pre to-new)) (qed W (token ∷ ‵ (owns (text (κ, tt) ∷ []) (s, tt) (low s ∷ [], tt)) ∷ []) ∵ join ! $ frame ! $ done !) $ frame ! $ done !
 
-    -- the six results, which own only facts
+    -- the six results own only facts: the place behind the header a, the four counts, and the place behind the end b
     abbrev low-count : Counted → Val
     low-count c = K′.lowered c
 
@@ -177,7 +175,7 @@ module _ {M : Type 1} (𝓤 : URA M) (H : Heap 𝓤) (A : Atoms 𝓤) (W : Given
         pass1 ! (init ! 28 refl (shr-slice-lawful 𝓤 H A W (named 0) κ u8 .typed s (low s ∷ []) is-s .0)) $ pass0 ! $
         -- [_15; its room; …; _0; its room; entry]
         move ! (32 ∷ []) $ use1 W (raw (New .pre to-new) ⊛ ‵ Own) goes-new $ split ! $
-        called ! fm new.ended (new.clauses 𝓤 H A mem run) (known .k-new) to-new held (LL.tells (decl (κ, tt)) (laws (κ, tt))) (λ r. (r .text ≡ s) × (r .at ≡ 0)) (λ r ws. id⊢ 𝓤 _) (and-then ! (load ! (from ! (stop !)) (look ! 30 refl)) (no-more !)) (λ r e is.
+        called-low ! fm new.ended (new.clauses 𝓤 H A mem run) (known .k-new) to-new held (LL.tells (decl (κ, tt)) (laws (κ, tt))) (λ r. (r .text ≡ s) × (r .at ≡ 0)) (λ r ws. id⊢ 𝓤 _) (and-then ! (load ! (from ! (stop !)) (look ! 30 refl)) (no-more !)) (λ r e is.
         -- [the view's; the token; the text's; _15 at 3; …; _0 at 33; …], so at the start of each line
         land ! (from ! (stop !)) (init ! 29 refl (placed 𝓤 H A W (κ, tt) r is)) $
         -- header
@@ -216,7 +214,7 @@ module _ {M : Type 1} (𝓤 : URA M) (H : Heap 𝓤) (A : Atoms 𝓤) (W : Given
         land ! (from ! (stop !)) (init ! 17 refl (uint-lawful 𝓤 H A W w64 .typed b _ is-b .0)) $
         -- the six results
         drop ! $ use0 W (raw (Table .pre (to-table a p n m c b))) (goes-table a p n m c b is-a is-p is-n is-m is-c is-b) $
-        called ! fm table.ended (table.clauses 𝓤 H A mem run) (known .k-table) (to-table a p n m c b) S′.lowered (LL.tells S.the-type S′.the-laws) (λ t. t ≡ tableOf a p n m c b) (λ t ws. id⊢ 𝓤 _) (and-then ! (load ! (from ! (stop !)) (look ! 27 refl)) (and-then ! (load ! (from ! (stop !)) (look ! 25 refl)) (and-then ! (load ! (from ! (stop !)) (look ! 23 refl)) (and-then ! (load ! (from ! (stop !)) (look ! 21 refl)) (and-then ! (load ! (from ! (stop !)) (look ! 19 refl)) (and-then ! (load ! (from ! (stop !)) (look ! 17 refl)) (no-more !))))))) (λ t e-t is-t.
+        called-low ! fm table.ended (table.clauses 𝓤 H A mem run) (known .k-table) (to-table a p n m c b) S′.lowered (LL.tells S.the-type S′.the-laws) (λ t. t ≡ tableOf a p n m c b) (λ t ws. id⊢ 𝓤 _) (and-then ! (load ! (from ! (stop !)) (look ! 27 refl)) (and-then ! (load ! (from ! (stop !)) (look ! 25 refl)) (and-then ! (load ! (from ! (stop !)) (look ! 23 refl)) (and-then ! (load ! (from ! (stop !)) (look ! 21 refl)) (and-then ! (load ! (from ! (stop !)) (look ! 19 refl)) (and-then ! (load ! (from ! (stop !)) (look ! 17 refl)) (no-more !))))))) (λ t e-t is-t.
         -- [the table's; no token; the token; the text's; _15 at 4; …]
         move ! (1 ∷ []) $ drop ! $ land ! (from ! (stop !)) (init ! 33 refl (LL.lawful S.the-type S′.the-laws 𝓤 H A W .typed t _ is-t .0)) $
         returns ! (look ! 33 refl) $ forget ! 3 refl $ forget ! 5 refl $ forget ! 7 refl $ forget ! 9 refl $ forget ! 11 refl $ forget ! 13 refl $ forget ! 15 refl $ forget ! 17 refl $

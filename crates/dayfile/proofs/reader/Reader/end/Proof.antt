@@ -1,4 +1,4 @@
--- `dayfile::reader::Reader::end` meets its contract: the law of a thin function (`Thin.antt`) at `reader.end_at`. Assumes nothing.
+-- The law of a thin function (`Thin.antt`), at `end_at`. Assumes nothing.
 use mathlib.Core.Path.{_≡_}
 use mathlib.Core.List.{[], _∷_}
 use contract.Running.{givenOf, tables, tablesOf}

@@ -8,8 +8,8 @@ use Rattle.lines.specs.Lines.{Stand, placeOf}
 use Rattle.lines.proofs.LineLaws.{Onward, onward-none, onward-more, onward-bad, onward-done, line-by}
 use Rattle.dayfile.specs.Sections.{Stated, positionLine, positionsFrom}
 use Rattle.dayfile.proofs.PositionLaws.{stated-by}
-use Rattle.dayfile.proofs.positions.Statement.{statement}
-use Rattle.dayfile.proofs.positions.Tie as tie
+use Rattle.dayfile.proofs.sections.positions.Statement.{statement}
+use Rattle.dayfile.proofs.sections.positions.Tie as tie
 
 abbrev Inv-loop : tie.InvT-loop
 Inv-loop text from first count n p words₀ marks₀ at₀ line₀ i₀ words marks at line i = Onward (positionLine text n p) count (record { at = from; line = first; held = record { words = words₀; marks = marks₀ } }) i (record { at = at; line = line; held = record { words = words; marks = marks } }) × (length words ≡ length words₀) × (length marks ≡ length marks₀)

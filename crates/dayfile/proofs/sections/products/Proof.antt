@@ -11,8 +11,8 @@ use Rattle.lines.specs.Lines.{Stand, placeOf}
 use Rattle.lines.proofs.LineLaws.{Onward, onward-none, onward-more, onward-bad, onward-done, line-by}
 use Rattle.dayfile.specs.Sections.{productAt, productLine, productsFrom}
 use Rattle.dayfile.specs.Words.{productWord}
-use Rattle.dayfile.proofs.products.Statement.{statement}
-use Rattle.dayfile.proofs.products.Tie as tie
+use Rattle.dayfile.proofs.sections.products.Statement.{statement}
+use Rattle.dayfile.proofs.sections.products.Tie as tie
 
 abbrev Inv-loop : tie.InvT-loop
 Inv-loop text from first count words₀ at₀ line₀ base₀ j₀ words at line base j = Onward (productLine text) count (record { at = from; line = first; held = words₀ }) j (record { at = at; line = line; held = words }) × (length words ≡ length words₀) × (base ≡ productWord j)

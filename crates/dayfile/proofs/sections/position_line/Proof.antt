@@ -10,8 +10,8 @@ use Rattle.dayfile.specs.Sections.{isOneOf, Stated, stated}
 use Rattle.dayfile.proofs.DayLaws.{one-of-below, mark-inside, position-inside}
 use Rattle.dayfile.proofs.PositionLaws.{position-no-account, position-no-product, position-stated}
 use borrow.Author.Needs.{needs}
-use Rattle.dayfile.proofs.position_line.Statement.{statement}
-use Rattle.dayfile.proofs.position_line.Tie as tie
+use Rattle.dayfile.proofs.sections.position_line.Statement.{statement}
+use Rattle.dayfile.proofs.sections.position_line.Tie as tie
 
 field-at-requires : tie.Need-field-at-requires
 field-at-requires c κs = search needs

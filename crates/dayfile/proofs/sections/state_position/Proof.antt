@@ -5,8 +5,8 @@ use lib.ListN.{getD}
 use mir.Syntax.{w64}
 use mir.Facts.{toZ-ofZ}
 use borrow.Author.Needs.{needs}
-use Rattle.dayfile.proofs.state_position.Statement.{statement}
-use Rattle.dayfile.proofs.state_position.Tie as tie
+use Rattle.dayfile.proofs.sections.state_position.Statement.{statement}
+use Rattle.dayfile.proofs.sections.state_position.Tie as tie
 
 mul-k : tie.Need-mul-k
 mul-k c = search needs

@@ -12,8 +12,8 @@ use borrow.Author.Needs.{needs}
 use lib.IntN.{ℤ}
 use lib.ListN.{length}
 use lib.Seq.{sets}
-use Rattle.dayfile.proofs.accounts.Statement.{statement}
-use Rattle.dayfile.proofs.accounts.Tie as tie
+use Rattle.dayfile.proofs.sections.accounts.Statement.{statement}
+use Rattle.dayfile.proofs.sections.accounts.Tie as tie
 
 abbrev Inv-loop : tie.InvT-loop
 Inv-loop text from first count p words₀ wide at₀ line₀ base₀ a₀ words at line base a = Onward (accountLine text p) count (record { at = from; line = first; held = words₀ }) a (record { at = at; line = line; held = words }) × (length words ≡ length words₀) × (base ≡ accountWord p a) × (wide ≡ width p)
