@@ -1,4 +1,4 @@
--- The second pass: a call's line and its figures, a close's columns, one call more, one account more. Assumes nothing.
+-- The second pass: a call's line and its figures, one call more, one account more. Assumes nothing.
 use mathlib.Core.Path.{_≡_, refl, _∙_, ap}
 use mathlib.Core.Bool.{Bool, true, false, cond}
 use mathlib.Core.List.{List, [], _++_, append-assoc}
@@ -7,15 +7,14 @@ use native.Mathlib.Nat.{not-suc-le-zero}
 use native.Mathlib.Omega.{arith}
 use lib.Dec.{ltb}
 use lib.IntN.{ℤ}
-use lib.ListN.{length, take, getD, drop}
-use lib.Seq.{sets}
-use Rattle.lines.proofs.WriteLaws.{take-figures}
+use lib.ListN.{length, getD}
 use Rattle.lines.specs.Lines.{lost, fieldAt, closing, Figures, figuresAt}
 use Rattle.lines.specs.Print.{numbersLine}
-use Rattle.dayfile.specs.Calls.{mostFigures, figuresOf, callAt, column, callsAt}
+use Rattle.dayfile.specs.Calls.{mostFigures, figuresOf, callAt, callsAt}
 use Rattle.dayfile.specs.Inside.{givenOf}
 use Rattle.day.specs.Inside.{doneAt}
-use Rattle.day.specs.Sheet.{replyLine, LedgerRules, accountNumbers, accountsPart, housePart, endPart, callsPart}
+use Rattle.calls.specs.Ledger.{LedgerRules}
+use Rattle.day.specs.Sheet.{replyLine, accountNumbers, accountsPart, housePart, endPart, callsPart}
 
 figures-length : (text : List ℕ) (at k : ℕ) → length (figuresAt text at k .values) ≡ k
 unfolding figuresAt
@@ -29,14 +28,6 @@ cond-length false f k e = e
 pub call-length : (text : List ℕ) (p at : ℕ) → length (callAt text p at .values) ≡ givenOf p (getD text at 0)
 unfolding callAt givenOf
 call-length text p at = cond-length (ltb mostFigures (figuresOf p (getD text at 0))) _ (figuresOf p (getD text at 0)) (figures-length text _ (figuresOf p (getD text at 0)))
-
--- a close's columns, each at the start of its list
-pub column-length : (k p : ℕ) (v : List ℤ) → length (column k p v) ≡ p
-column-length k zero v = refl
-column-length k (suc p) v = ap suc (column-length k p (drop 4 v))
-
-pub column-taken : (l : List ℤ) (k p : ℕ) (v X : List ℤ) → p ≤ length l → X ≡ sets l 0 (column k p v) → take p X ≡ column k p v
-column-taken l k p v X h e = ap (take p) e ∙ take-figures l (column k p v) p (column-length k p v) h
 
 module _ (l : LedgerRules) (n p : ℕ) where
   pub calls-more : (text : List ℕ) (at left : ℕ) (words : List ℤ) → 0 < left → callsPart l n p (callsAt text p at left) words ≡ replyLine (doneAt l text p at words .0) ++ callsPart l n p (callsAt text p (callAt text p at .next) (left - 1)) (doneAt l text p at words .1)

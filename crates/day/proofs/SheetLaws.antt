@@ -20,7 +20,8 @@ use Rattle.dayfile.specs.Day.{Day, bodiesOf, dayOf}
 use Rattle.dayfile.specs.Inside.{Modest, Bodied}
 use Rattle.dayfile.specs.Table.{contentsOf}
 use Rattle.dayfile.specs.Words.{lengthOf}
-use Rattle.day.specs.Sheet.{replyLine, LedgerRules, accountNumbers, accountsPart, housePart, endPart, callsPart, goodSheet, daySheet, sheetOf, room, answerOf}
+use Rattle.calls.specs.Ledger.{LedgerRules}
+use Rattle.day.specs.Sheet.{replyLine, accountNumbers, accountsPart, housePart, endPart, callsPart, goodSheet, daySheet, sheetOf, room, answerOf}
 use Rattle.dayfile.specs.declared.Contents.{Contents}
 use Rattle.rules.specs.declared.Reply.{Reply}
 use Rattle.dayfile.specs.declared.Bodies.{Bodies}

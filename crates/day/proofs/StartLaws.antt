@@ -6,14 +6,13 @@ use Prim.Native.Nat.{ℕ, zero, suc, _≤_}
 use native.Mathlib.Omega.{arith}
 use lib.IntN.{ℤ, pos}
 use Rattle.whole.specs.Tests.{is-in}
-use Rattle.places.specs.declared.Shape.{Shape}
 use Rattle.places.specs.Act.{count, shapeOf}
 use Rattle.places.specs.ActLaws.{ledger-at}
 use Rattle.places.specs.ByAccount.{byAccount}
 use Rattle.soundness.specs.Sound.{placesOk}
 use Rattle.soundness.specs.SoundLaws.{Ledger}
 use Rattle.dayfile.proofs.HeadLaws.{Head}
-use Rattle.day.specs.Joined.{theLedger}
+use Rattle.calls.specs.Ledger.{theLedger}
 
 -- a count up to its most is what it states
 count-is : (b k : ℕ) → k ≤ b → count b (pos k) ≡ k

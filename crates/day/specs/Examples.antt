@@ -2,16 +2,17 @@
 use mathlib.Core.Path.{_≡_, refl}
 use mathlib.Core.List.{List, [], _∷_, _++_}
 use Prim.Native.Nat.{ℕ}
-use lib.IntN.{ℤ, pos, negsuc}
+use lib.IntN.{pos, negsuc}
 use Rattle.lines.specs.Bytes.{bytes}
 use Rattle.lines.specs.Text.{numberAt}
 use Rattle.lines.specs.Lines.{past, fieldAt, figuresAt, kindAt, lines}
 use Rattle.lines.specs.Print.{digits, decimal, numbersLine, badLine}
 use Rattle.dayfile.specs.Table.{countLine, contentsOf}
 use Rattle.dayfile.specs.Sections.{positionAt, productsFrom, accountsFrom, positionsFrom}
-use Rattle.dayfile.specs.Calls.{Call, withdrawal, begin, step, close, figuresOf, callAt, callOf, callsFrom, callsAt}
+use Rattle.dayfile.specs.Calls.{withdrawal, begin, step, close, figuresOf, callAt, callOf, callsFrom, callsAt}
 use Rattle.dayfile.specs.Day.{bodiesOf, dayOf}
-use Rattle.day.specs.Sheet.{LedgerRules, daySheet, sheetOf}
+use Rattle.calls.specs.Ledger.{LedgerRules}
+use Rattle.day.specs.Sheet.{daySheet, sheetOf}
 
 -- 01's table of contents and bodies
 top : List ℕ

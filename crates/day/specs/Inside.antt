@@ -1,32 +1,15 @@
--- Words for the contracts of private functions. No reader of the entry point's contract needs them.
+-- Words for the contract of the private function `do_call`. No reader of the entry point's contract needs them.
 use mathlib.Core.Path.{_≡_}
-use mathlib.Core.Bool.{cond}
 use mathlib.Core.List.{List}
-use Prim.Native.Char.{code}
 use Prim.Native.Nat.{ℕ, _+_}
-use lib.Dec.{eqb}
 use lib.IntN.{ℤ}
 use lib.ListN.{length, getD}
 use lib.Seq.{sets}
-use Rattle.dayfile.specs.Calls.{Call, begin, step, trade, close, none, callAt, column, figure, callOf}
-use Rattle.day.specs.Sheet.{LedgerRules, replyLine}
+use Rattle.dayfile.specs.Calls.{callAt, callOf}
+use Rattle.calls.specs.Ledger.{LedgerRules}
+use Rattle.day.specs.Sheet.{replyLine}
 use Rattle.rules.specs.declared.Reply.{Reply}
 use Rattle.day.specs.declared.Turn.{Turn}
-
--- a trade and a close by their figures, and the call of a letter other than `D`, `W` and `G`: the parts of `callOf` that have functions of
--- their own
-abbrev pub tradeOf : List ℤ → Call
-tradeOf v = trade (figure v 0) (figure v 1) (figure v 2) (figure v 3) (figure v 4)
-
-abbrev pub closeOf : (p : ℕ) → List ℤ → Call
-closeOf p v = close (column 0 p v) (column 1 p v) (column 2 p v) (column 3 p v)
-
-unfoldable pub callOnAll : (p letter : ℕ) → List ℤ → Call
-callOnAll p letter v =
-    cond (eqb letter (code "B")) begin
-    (cond (eqb letter (code "S")) step
-    (cond (eqb letter (code "T")) (tradeOf v)
-    (cond (eqb letter (code "C")) (closeOf p v) none)))
 
 -- what the call at a place answers and leaves
 abbrev pub doneAt : LedgerRules → (text : List ℕ) (p at : ℕ) → List ℤ → Reply × List ℤ

@@ -1,8 +1,6 @@
--- The sheet. Believed: `Sheet` (the sheet of a text, over what the ledger does) and `Joined` (the ledger that is meant). Laws: `JoinedLaws`
--- (that ledger stays sound, and its layout is the day file's). `Inside` has words for the contracts of private functions. `Examples` are
--- computed.
+-- The sheet. Believed: `Sheet` (the sheet of a text, over what the ledger does). `Inside` has words for the contract of a private function.
+-- `Examples` and `Days` are computed.
 pub mod Sheet
-pub mod Joined
-pub mod JoinedLaws
 pub mod Inside
 pub mod Examples
+pub mod Days

@@ -1,5 +1,5 @@
 -- The sheet of a text (01, "The day file and the sheet"), over what the ledger does.
-use mathlib.Core.Bool.{Bool, cond}
+use mathlib.Core.Bool.{cond}
 use mathlib.Core.List.{List, [], _∷_, _++_}
 use Prim.Native.Nat.{ℕ, zero, suc, _+_}
 use lib.Dec.{ltb, eqb}
@@ -12,13 +12,7 @@ use Rattle.dayfile.specs.Calls.{Call}
 use Rattle.dayfile.specs.Day.{Day, dayOf}
 use Rattle.dayfile.specs.Words.{accountWord}
 use Rattle.rules.specs.declared.Reply.{Reply}
-use Rattle.rules.specs.declared.Standing.{Standing}
-
--- what the ledger does with its words: whether they are sound, what a call answers and leaves, what a question about an account answers
-pub record LedgerRules : Type 0 where
-  pub sound : List ℤ → Bool
-  pub perform : Call → List ℤ → Reply × List ℤ
-  pub question : ℤ → List ℤ → Standing
+use Rattle.calls.specs.Ledger.{LedgerRules}
 
 -- 01: "number and figure per call"
 abbrev pub replyLine : Reply → List ℕ

@@ -18,10 +18,8 @@ ghost use Rattle.dayfile.specs.Inside.{Modest};
 ghost use Rattle.dayfile.specs.Sections.{noMarks};
 ghost use Rattle.dayfile.specs.Words.{accountWord, lengthOf};
 ghost use Rattle.day.specs.Inside.{Called};
-ghost use Rattle.day.specs.Joined.{theLedger};
+ghost use Rattle.calls.specs.Ledger.{theLedger};
 ghost use Rattle.day.specs.Sheet.{replyLine, accountNumbers, housePart, endPart, callsPart, daySheet, sheetOf, answerOf};
-
-mod calls;
 
 // Room for every sheet, and the words of the largest ledger: 64 accounts and 16 products.
 const ROOM: usize = 65536;

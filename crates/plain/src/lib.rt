@@ -30,11 +30,22 @@ fn is_digit(b: u8) -> bool {
     b >= b'0' && b <= b'9'
 }
 
+// Why no number can be read that is a minus, a 0 and a byte.
+fn zero_fault(next: u8) -> Fault {
+    if is_digit(next) {
+        return Fault::LeadingZero;
+    }
+    Fault::MinusZero
+}
+
 // Why no number can be read behind a minus.
 fn minus_fault(text: &[u8], at: usize) -> Fault {
-    let lead = lines::byte_at(text, at);
+    if at >= text.len() {
+        return Fault::NotDigits;
+    }
+    let lead = text[at];
     if lead == b'0' {
-        return Fault::MinusZero;
+        return zero_fault(lines::byte_at(text, at + 1));
     }
     if is_digit(lead) {
         return Fault::TooLarge;
@@ -348,4 +359,17 @@ pub fn explain(text: &[u8], line: usize, out: &mut [u8]) -> usize
     let fault = f.fault;
     let figure = f.figure;
     put_finding(out, line, figure, fault)
+}
+
+// The same by the sheet of the text; 0, and `out` left alone, where the sheet is not that of a bad text.
+pub fn explain_bad(text: &[u8], sheet: &[u8], out: &mut [u8]) -> usize
+    ensures { λ r. ⌜ r ≤ length (now (out .exit)) ⌝ }
+{
+    let at = lines::past_word(sheet, 0, b"BAD ");
+    if at == LOST {
+        return 0;
+    }
+    let bad = lines::field_at(sheet, at, b'\n');
+    let line = whole::size(bad.value) as usize;
+    explain(text, line, out)
 }

@@ -4,7 +4,6 @@
 use libc::STDERR_FILENO;
 use libc::STDIN_FILENO;
 use libc::STDOUT_FILENO;
-use lines::LOST;
 ghost use Prim.Native.Nat.{_≤_};
 ghost use lib.ListN.{length};
 
@@ -33,16 +32,10 @@ fn read_text(fd: i32, text: &mut [u8]) -> Input
     Input { good: true, size }
 }
 
-// Says on standard error what is wrong with a text, where its sheet says that it is bad.
+// Says on standard error what is wrong with a text, where its sheet says that it is bad; else nothing.
 fn print_fault(text: &[u8], sheet: &[u8]) {
-    let at = lines::past_word(sheet, 0, b"BAD ");
-    if at == LOST {
-        return;
-    }
-    let bad = lines::field_at(sheet, at, b'\n');
-    let line = whole::size(bad.value) as usize;
     let mut words = [0u8; 512];
-    let size = plain::explain(text, line, &mut words);
+    let size = plain::explain_bad(text, sheet, &mut words);
     io::write_all(STDERR_FILENO, &words[..size]);
 }
 

@@ -9,7 +9,7 @@ ghost use Rattle.acts.specs.Run as R;
 ghost use Rattle.closing.specs.Close as C;
 ghost use Rattle.shares.specs.Loss as L;
 ghost use Rattle.rules.specs.Calls as K;
-ghost use Rattle.day.specs.Joined.{theLedger};
+ghost use Rattle.calls.specs.Ledger.{theLedger};
 ghost use Rattle.day.specs.Sheet.{sheetOf, answerOf};
 use rules::Account;
 use rules::Reply;

@@ -3,19 +3,18 @@ use mathlib.Core.Path.{refl, sym, _∙_, ap, subst}
 use mathlib.Core.List.{List, [], append-nil}
 use Prim.Native.Nat.{ℕ, _+_}
 use native.Mathlib.Omega.{arith}
-use lib.IntN.{ℤ, pos}
-use lib.ListN.{length, getD, length-replicate}
+use lib.IntN.{ℤ}
+use lib.ListN.{length}
 use lib.Seq.{sets}
 use Rattle.lines.specs.Bytes.{bytes}
 use Rattle.lines.specs.Print.{badLine}
 use Rattle.lines.proofs.WriteLaws.{wrote-none, wrote-more, wrote-done}
 use Rattle.dayfile.specs.Calls.{callsAt}
 use Rattle.dayfile.specs.Day.{bodiesOf}
-use Rattle.dayfile.specs.Words.{lengthOf}
 use Rattle.dayfile.proofs.HeadLaws.{Head, bodies-head}
 use Rattle.places.specs.ByAccount.{byAccount}
 use Rattle.soundness.specs.SoundLaws.{Ledger}
-use Rattle.day.specs.Joined.{theLedger}
+use Rattle.calls.specs.Ledger.{theLedger}
 use Rattle.day.proofs.StartLaws.{opened}
 use Rattle.day.specs.Sheet.{callsPart, daySheet}
 use Rattle.day.proofs.SheetLaws.{day-bad, day-unsound, good-is}

@@ -12,7 +12,7 @@ use Rattle.lines.proofs.WriteLaws.{take-figures}
 use Rattle.dayfile.specs.Calls.{callAt, callOf}
 use Rattle.dayfile.specs.Inside.{givenOf}
 use Rattle.day.specs.Inside.{doneAt}
-use Rattle.day.specs.Joined.{theLedger}
+use Rattle.calls.specs.Ledger.{theLedger}
 use Rattle.day.specs.Sheet.{replyLine}
 use Rattle.day.proofs.RunLaws.{call-length}
 use Rattle.rules.specs.declared.Reply.{Reply}

@@ -12,7 +12,7 @@ use mir.Facts.{toZ-ofZ, toZ-pos}
 use Rattle.whole.specs.Whole.{whole, facts, by}
 use Rattle.lines.specs.Print.{numbersLine}
 use Rattle.dayfile.specs.Words.{accountWord}
-use Rattle.day.specs.Joined.{theLedger}
+use Rattle.calls.specs.Ledger.{theLedger}
 use Rattle.rules.specs.declared.Standing.{Standing}
 use borrow.Author.Needs.{needs}
 use Rattle.day.proofs.put_account.Statement.{statement}

@@ -8,8 +8,8 @@ use Rattle.lines.specs.Print.{numbersLine}
 use Rattle.lines.proofs.PrintLaws.{line-length}
 use Rattle.lines.proofs.WriteLaws.{Wrote, wrote-none, wrote-more, wrote-done}
 use Rattle.dayfile.proofs.DayLaws.{account-inside}
-use Rattle.day.specs.Joined.{theLedger}
-use Rattle.day.specs.JoinedLaws.{long}
+use Rattle.calls.specs.Ledger.{theLedger}
+use Rattle.calls.specs.LedgerLaws.{long}
 use Rattle.day.specs.Sheet.{accountNumbers, accountsPart, housePart, endPart}
 use Rattle.day.proofs.RunLaws.{accounts-more, accounts-none, accounts-all}
 use Rattle.day.proofs.put_end.Statement.{statement}

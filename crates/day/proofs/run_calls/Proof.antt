@@ -10,8 +10,8 @@ use Rattle.soundness.specs.SoundLaws.{Ledger}
 use Rattle.lines.proofs.WriteLaws.{Wrote, wrote-none, wrote-more, wrote-done}
 use Rattle.dayfile.specs.Calls.{callAt, callOf, callsAt}
 use Rattle.day.specs.Inside.{doneAt}
-use Rattle.day.specs.Joined.{theLedger}
-use Rattle.day.specs.JoinedLaws.{keeps}
+use Rattle.calls.specs.Ledger.{theLedger}
+use Rattle.calls.specs.LedgerLaws.{keeps}
 use Rattle.day.specs.Sheet.{replyLine, endPart, callsPart}
 use Rattle.day.proofs.RunLaws.{calls-more, calls-none}
 use Rattle.day.proofs.SheetLaws.{reply-length}

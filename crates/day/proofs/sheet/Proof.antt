@@ -2,7 +2,7 @@
 use Rattle.lines.specs.Print.{badLine}
 use Rattle.dayfile.specs.Day.{bodiesOf}
 use Rattle.dayfile.specs.Table.{contentsOf}
-use Rattle.day.specs.Joined.{theLedger}
+use Rattle.calls.specs.Ledger.{theLedger}
 use Rattle.day.specs.Sheet.{daySheet, sheetOf}
 use Rattle.day.proofs.SheetLaws.{sheet-long, sheet-short, answer-none, answer-is}
 use borrow.Author.Needs.{needs}

@@ -11,7 +11,7 @@ use Rattle.dayfile.specs.Inside.{Modest}
 use Rattle.dayfile.specs.Table.{contentsOf}
 use Rattle.dayfile.specs.Words.{lengthOf}
 use Rattle.dayfile.proofs.ContentsLaws.{contents-modest}
-use Rattle.day.specs.Joined.{theLedger}
+use Rattle.calls.specs.Ledger.{theLedger}
 use Rattle.day.specs.Sheet.{daySheet}
 use Rattle.day.proofs.SheetLaws.{size-most, take-replicate}
 use Rattle.dayfile.specs.declared.Contents.{Contents}

@@ -3,7 +3,7 @@ use mathlib.Core.Path.{sym}
 use lib.ListN.{replicate}
 use lib.Seq.{length-take-le}
 use Rattle.day.specs.Sheet.{sheetOf}
-use Rattle.day.specs.Joined.{theLedger}
+use Rattle.calls.specs.Ledger.{theLedger}
 use Rattle.day.proofs.SheetLaws.{answer-within}
 use borrow.Author.Needs.{needs}
 use Rattle.sheet.proofs.print_sheet.Statement.{statement}

@@ -1,0 +1,186 @@
+// Runs many texts through `day::sheet` and compares each sheet with the one expected, and what `plain` says of a bad text likewise: a line
+// for each kind of text, with how many texts it has and how many differ; then how many differ in all. The texts and their sheets are read
+// from standard input (`cases` says how); those of the largest day, and those with a carriage return, are made here.
+ghost use Prim.Native.Nat.{_≤_, _<_};
+ghost use lib.ListN.{length};
+use libc::STDIN_FILENO;
+use libc::STDOUT_FILENO;
+
+mod cases;
+mod full;
+
+// How many texts were run, and how many gave something else than expected.
+struct Tally {
+    run: u64,
+    wrong: u64,
+}
+
+fn none() -> Tally {
+    Tally { run: 0, wrong: 0 }
+}
+
+// Whether the words about a text by its sheet are others than those expected, where any are.
+fn speaks_otherwise(text: &[u8], sheet: &[u8], expected: &[u8]) -> bool {
+    if expected.len() == 0 {
+        return false;
+    }
+    let mut words = [0u8; 512];
+    let size = plain::explain_bad(text, sheet, &mut words);
+    !check::same(&words[..size], expected)
+}
+
+// Whether the sheet of a text, or the words about it, are others than those expected.
+fn differs(text: &[u8], expected: &[u8], words: &[u8]) -> bool {
+    let mut out = [0u8; 65536];
+    let size = day::sheet(text, &mut out);
+    if !check::same(&out[..size], expected) {
+        return true;
+    }
+    speaks_otherwise(text, expected, words)
+}
+
+// One more; no kind has a million texts.
+fn next(n: u64) -> u64 {
+    if n < 1000000 { n + 1 } else { n }
+}
+
+// One text more.
+fn tried(t: Tally, text: &[u8], expected: &[u8], words: &[u8]) -> Tally {
+    let run = next(t.run);
+    let wrong = t.wrong;
+    if differs(text, expected, words) {
+        return Tally {
+            run,
+            wrong: next(wrong),
+        };
+    }
+    Tally { run, wrong }
+}
+
+// Two tallies together.
+fn sum(a: u64, b: u64) -> u64 {
+    if a > 1000000 {
+        return a;
+    }
+    if b > 1000000 {
+        return b;
+    }
+    a + b
+}
+
+// A kind's line, and the tally of all kinds with it.
+fn told(all: Tally, name: &[u8], t: Tally) -> Tally {
+    let run = t.run;
+    let wrong = t.wrong;
+    io::write_all(STDOUT_FILENO, name);
+    io::write_all(STDOUT_FILENO, b": ");
+    io::print_decimal(STDOUT_FILENO, run);
+    io::write_all(STDOUT_FILENO, b" texts, ");
+    io::print_decimal(STDOUT_FILENO, wrong);
+    io::write_all(STDOUT_FILENO, b" differ\n");
+    Tally {
+        run: sum(all.run, run),
+        wrong: sum(all.wrong, wrong),
+    }
+}
+
+// ---- the cases that are read
+
+// A case between two lines of a kind.
+fn case(t: Tally, file: &[u8], kind: usize, from: usize, to: usize) -> Tally
+    requires { ⌜ kind ≤ length (now file) ⌝ ∗ ⌜ from ≤ length (now file) ⌝ ∗ ⌜ to ≤ length (now file) ⌝ }
+{
+    let mut text = [0u8; 4096];
+    let mut sheet = [0u8; 4096];
+    let mut words = [0u8; 512];
+    let top = cases::push_lines(file, kind, to, b'*', b"\n", &mut text, 0);
+    let lines = cases::push_lines(file, from, to, b'>', b"\n", &mut text, top);
+    let size = cases::push_lines(file, from, to, b'|', b"", &mut text, lines);
+    let end = cases::push_lines(file, from, to, b'<', b"\n", &mut sheet, 0);
+    let said = cases::push_lines(file, from, to, b'!', b"\n", &mut words, 0);
+    tried(t, &text[..size], &sheet[..end], &words[..said])
+}
+
+// The cases of a kind, whose lines are those between two.
+fn cases_of(file: &[u8], kind: usize, to: usize) -> Tally
+    requires { ⌜ kind ≤ length (now file) ⌝ ∗ ⌜ to ≤ length (now file) ⌝ }
+{
+    let mut t = none();
+    let mut from = kind;
+    let mut end = cases::find(file, kind, b'.');
+    while end < to {
+        t = case(t, file, kind, from, end);
+        from = end;
+        end = cases::find(file, cases::next_line(file, end), b'.');
+    }
+    t
+}
+
+// A kind: its name, and its cases.
+fn kind(all: Tally, file: &[u8], from: usize, to: usize) -> Tally
+    requires { ⌜ from < length (now file) ⌝ ∗ ⌜ to ≤ length (now file) ⌝ }
+{
+    let mut name = [0u8; 128];
+    let size = cases::push_line(file, from, b"", &mut name, 0);
+    let t = cases_of(file, from, to);
+    told(all, &name[..size], t)
+}
+
+// Every kind of the file.
+fn kinds(file: &[u8]) -> Tally {
+    let mut all = none();
+    let mut from = cases::find(file, 0, b'=');
+    while from < file.len() {
+        let to = cases::find(file, cases::next_line(file, from), b'=');
+        all = kind(all, file, from, to);
+        from = to;
+    }
+    all
+}
+
+// ---- the cases that are made
+
+// A carriage return is a byte like any other.
+fn returns() -> Tally {
+    let a = tried(none(), b"FXDAY\r\n", b"BAD 1\n", b"");
+    tried(a, b"FXDAY\nPRODUCTS 1\r\n", b"BAD 2\n", b"")
+}
+
+// One text more: the first bytes of a list, and of a sheet.
+fn first_bytes(t: Tally, text: &[u8], size: usize, expected: &[u8], end: usize) -> Tally {
+    if size > text.len() {
+        return t;
+    }
+    if end > expected.len() {
+        return t;
+    }
+    tried(t, &text[..size], &expected[..end], b"")
+}
+
+// Texts of 65,536 bytes and of one more: of the largest day, and of one letter.
+fn longest() -> Tally {
+    let mut text = [0u8; 65600];
+    let mut sheet = [0u8; 65536];
+    let end = full::push_sheet(&mut sheet);
+    let size = full::push_day(&mut text, 0);
+    if size > 65536 {
+        return none();
+    }
+    let a = first_bytes(none(), &text, size, &sheet, end);
+    full::push_day(&mut text, 65536 - size);
+    let b = first_bytes(a, &text, 65536, &sheet, end);
+    let c = first_bytes(b, &text, 65537, b"BAD 0\n", 6);
+    let d = first_bytes(c, &text, 65535, b"BAD 2110\n", 9);
+    full::push_many(&mut text, 0, b"x", 65537);
+    let e = first_bytes(d, &text, 65536, b"BAD 1\n", 6);
+    first_bytes(e, &text, 65537, b"BAD 0\n", 6)
+}
+
+fn main() {
+    let mut file = [0u8; 65536];
+    let size = io::read_full(STDIN_FILENO, &mut file);
+    let a = kinds(&file[..size]);
+    let b = told(a, b"carriage returns", returns());
+    let c = told(b, b"longest texts", longest());
+    told(none(), b"in all", c);
+}

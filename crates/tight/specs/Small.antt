@@ -1,0 +1,42 @@
+-- One small ledger (01, "The ledger's words"), by the words that the examples change: two accounts, one yen product at 1,502,500.
+use mathlib.Core.List.{List, [], _∷_}
+use lib.IntN.{ℤ, pos, negsuc}
+
+-- phase, house, last closing price; then the accounts' words
+abbrev pub ledger : ℤ → ℤ → ℤ → List ℤ → List ℤ
+ledger phase house price accounts = pos 2 ∷ pos 1 ∷ phase ∷ house ∷ pos 0 ∷ pos 0 ∷ price ∷ pos 0 ∷ pos 0 ∷ accounts
+
+-- an account with its position, before the accounts that follow: its kind, cash, guarantee, cap, initial margin, due 0, lots, book
+abbrev pub account : ℤ → ℤ → ℤ → ℤ → ℤ → ℤ → ℤ → ℤ → List ℤ → List ℤ
+account kind cash guarantee cap margin due lots book rest = kind ∷ cash ∷ guarantee ∷ cap ∷ margin ∷ due ∷ pos 0 ∷ pos 0 ∷ lots ∷ book ∷ rest
+
+-- by cash, due 0, lots and book: a broker, without a guarantee, and a liquidity provider, without a margin
+abbrev pub broker : ℤ → ℤ → ℤ → ℤ → List ℤ → List ℤ
+broker cash due lots book rest = account (pos 0) cash (pos 0) (pos 0) (pos 0) due lots book rest
+
+abbrev pub provider : ℤ → ℤ → ℤ → ℤ → List ℤ → List ℤ
+provider cash due lots book rest = account (pos 1) cash (pos 0) (pos 0) (pos 0) due lots book rest
+
+-- the start of 01's day file: the broker is to receive 200,000, the provider to pay them; by phase
+abbrev pub opening : ℤ → List ℤ
+opening phase = ledger phase (pos 0) (pos 1502500) (broker (pos 50000) (pos 200000) (pos 0) (pos 0) (provider (pos 300000) (negsuc 199999) (pos 0) (pos 0) []))
+
+-- the run done, 30 lots between the two, by the cash of each
+abbrev pub settled : ℤ → ℤ → List ℤ
+settled c d = ledger (pos 3) (pos 0) (pos 1502500) (broker c (pos 0) (pos 30) (pos 45075000) (provider d (pos 0) (negsuc 29) (negsuc 45074999) []))
+
+-- the broker one lot from the bound of a position
+abbrev pub full : List ℤ
+full = ledger (pos 0) (pos 0) (pos 1502500) (broker (pos 0) (pos 0) (pos 999999) (pos 0) (provider (pos 0) (pos 0) (negsuc 999998) (pos 0) []))
+
+-- the broker by its cash, with nothing due
+abbrev pub holding : ℤ → List ℤ
+holding c = ledger (pos 0) (pos 0) (pos 1502500) (broker c (pos 0) (pos 0) (pos 0) (provider (pos 0) (pos 0) (pos 0) (pos 0) []))
+
+-- R10 of 01: F, cash 80,000, margin 600,000, due 0 -100,000
+abbrev pub short : List ℤ
+short = ledger (pos 0) (pos 0) (pos 1502500) (account (pos 0) (pos 80000) (pos 0) (pos 0) (pos 600000) (negsuc 99999) (pos 0) (pos 0) (provider (pos 0) (pos 0) (pos 0) (pos 0) []))
+
+-- 01: house 10^17 with due 0 of -1 in account 0 and 1 in account 1
+abbrev pub brim : List ℤ
+brim = ledger (pos 0) (pos 100000000000000000) (pos 1502500) (broker (pos 0) (negsuc 0) (pos 0) (pos 0) (provider (pos 0) (pos 1) (pos 0) (pos 0) []))
