@@ -1,7 +1,7 @@
 //! Demand 3: a run with requests between its transfers gives the answers and
-//! the ledger of three stretches: first the requests for accounts that had not
-//! had their transfer (and those that name no account), then the transfers,
-//! then the requests for accounts that had had theirs.
+//! the ledger of three stretches: first the one-account requests of accounts
+//! that had not had their transfer, then the run, then all the rest, every
+//! trade included.
 
 use second::clerk::Plain;
 use second::gen::calls::{request, Call, Outcome};
@@ -25,12 +25,13 @@ fn stretch(call: &Call, words: &[i64]) -> Stretch {
         | Call::Withdraw { account, .. }
         | Call::Guarantee { account, .. }
         | Call::Question { account } => account,
-        _ => return Stretch::Run,
+        Call::Begin | Call::Step => return Stretch::Run,
+        Call::Trade { .. } | Call::Close { .. } => return Stretch::After,
     };
     let at = sound(words).expect("a sound ledger");
     match at.find_account(account) {
-        Some(a) if a as i64 <= words[PHASE] - 2 => Stretch::After,
-        _ => Stretch::Before,
+        Some(a) if a as i64 > words[PHASE] - 2 => Stretch::Before,
+        _ => Stretch::After,
     }
 }
 
@@ -64,6 +65,7 @@ fn three_stretches_agree(seed: u64, phase: i64, rounds: usize) {
     let mut rng = Rng::new(seed);
     let mut placed = [0; 2];
     let mut refused = 0;
+    let mut traded = 0;
     for _ in 0..rounds {
         let mut at = ledgers::sizes(&mut rng);
         at.n = at.n.min(12);
@@ -92,9 +94,14 @@ fn three_stretches_agree(seed: u64, phase: i64, rounds: usize) {
             placed[1] += usize::from(*stretch == Stretch::After);
             refused += usize::from(matches!(outcome.number, 10 | 11));
         }
+        traded += done
+            .iter()
+            .filter(|(call, _, outcome)| call.name() == "trade" && outcome.number == 0)
+            .count();
     }
     assert!(placed.iter().all(|&count| count > rounds), "{placed:?} placed");
     assert!(refused > rounds / 4, "{refused} refused by the account's own figures");
+    assert!(traded > rounds / 10, "{traded} trades done between transfers");
 }
 
 #[test]

@@ -112,10 +112,9 @@ pub fn of(rng: &mut Rng, kind: Kind, words: &[i64]) -> Call {
     }
 }
 
-/// A request that belongs to one account: what a run may meet between steps.
+/// A request of one account, or a trade: what a run may meet between steps.
 pub fn request(rng: &mut Rng, words: &[i64]) -> Call {
-    let kinds = [Kind::Deposit, Kind::Withdraw, Kind::Guarantee, Kind::Question];
-    let kind = rng.pick(&kinds);
+    let kind = rng.pick(&KINDS[..5]);
     of(rng, kind, words)
 }
 
