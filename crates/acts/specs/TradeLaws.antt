@@ -1,19 +1,17 @@
 -- A trade: what it puts and sees, and that it keeps the ledger sound: both positions stay in range, and the lots of each product still
 -- add to zero. Assumes nothing.
-use mathlib.Core.Path.{_≡_, refl, sym, ap, ap₂, subst, _∙_}
+use mathlib.Core.Path.{_≡_, refl, sym, ap, subst, _∙_}
 use mathlib.Core.Logic.{_≢_}
 use mathlib.Core.List.{List, [], _∷_}
-use mathlib.Core.Bool.{Bool, true, false, cond, _&&_}
-use borrow.Author.Tests.{eq-eqb, ne-eqb}
-use lib.Dec.{eqb}
-use Prim.Native.Nat.{ℕ, zero, suc, _<_}
+use mathlib.Core.Bool.{Bool, true, false, _&&_}
+use Prim.Native.Nat.{ℕ, _<_}
 use native.Mathlib.Omega.{arith}
 use native.Mathlib.Decide.{ℕ-discrete}
 use lib.ListN.{length}
-use lib.IntN.{ℤ, natAbs, negℤ, _+ℤ_, _-ℤ_, _*ℤ_, +ℤ-assoc, +ℤ-comm, +ℤ-negℤ-cancel}
+use lib.IntN.{ℤ, natAbs, _+ℤ_, _-ℤ_, _*ℤ_}
 use Rattle.whole.specs.Number.{is, isBelow}
 use Rattle.whole.specs.Below.{sum}
-use Rattle.whole.specs.BelowLaws.{sum-same}
+use Rattle.whole.specs.BelowLaws.{sum-same, two-terms}
 use Rattle.whole.specs.Tests.{both, in-range, is-below}
 use Rattle.rules.specs.Account.{accountOk}
 use Rattle.places.specs.declared.Shape.{Shape}
@@ -117,40 +115,6 @@ trade-puts P s g b c j q t z h =
 -- two words of a position are not one
 other-word : _≡_ {A = ℕ} 0 1 → ⊥
 other-word p = omega arith
-
--- ---- a sum of which one term rises by x
-pub sum-one : (n : ℕ) (f g : ℕ → ℤ) (a : ℕ) (x : ℤ) → a < n → g a ≡ f a +ℤ x → ((i : ℕ) → i < n → i ≢ a → g i ≡ f i) → sum n g ≡ sum n f +ℤ x
-sum-one zero f g a x h e o = absurd (omega arith)
-sum-one (suc n) f g a x h e o = go (sum-one n f g a x) (ℕ-discrete a n)
-  where
-    go : (a < n → g a ≡ f a +ℤ x → ((i : ℕ) → i < n → i ≢ a → g i ≡ f i) → sum n g ≡ sum n f +ℤ x) → Dec (a ≡ n) → sum n g +ℤ g n ≡ sum n f +ℤ f n +ℤ x
-    go rest (yes q) =
-        ap₂ _+ℤ_ (sum-same n g f (λ i k. o i (omega arith) (λ z. omega arith))) (subst (λ i. g i ≡ f i +ℤ x) q e) ∙ sym (+ℤ-assoc (sum n f) (f n) x)
-    go rest (no q) =
-        ap₂ _+ℤ_ (rest (omega arith) e (λ i k. o i (omega arith))) (o n (omega arith) (λ z. q (sym z)))
-        ∙ +ℤ-assoc (sum n f) x (f n) ∙ ap (λ z. sum n f +ℤ z) (+ℤ-comm x (f n)) ∙ sym (+ℤ-assoc (sum n f) (f n) x)
-
--- one term rises by x and another falls by it
-two-terms : (n : ℕ) (f g : ℕ → ℤ) (a b : ℕ) (x : ℤ) → a < n → b < n → a ≢ b → g a ≡ f a +ℤ x → g b ≡ f b -ℤ x → ((i : ℕ) → i < n → i ≢ a → i ≢ b → g i ≡ f i)
-    → sum n g ≡ sum n f
-two-terms n f g a b x ha hb ne ea eb o =
-    sum-one n middle g b (negℤ x) hb (eb ∙ ap (λ z. z +ℤ negℤ x) (sym (off b (λ q. ne (sym q))))) (λ i h k. rest i h k (ℕ-discrete i a))
-    ∙ ap (λ z. z +ℤ negℤ x) (sum-one n f middle a x ha (there a refl) (λ i h k. off i k))
-    ∙ +ℤ-negℤ-cancel (sum n f) x
-  where
-    -- the sum after the rise alone
-    middle : ℕ → ℤ
-    middle i = cond (eqb i a) (f a +ℤ x) (f i)
-
-    there : (i : ℕ) → i ≡ a → middle i ≡ f a +ℤ x
-    there i q = rw (eq-eqb i a q)
-
-    off : (i : ℕ) → i ≢ a → middle i ≡ f i
-    off i q = rw (ne-eqb i a q)
-
-    rest : (i : ℕ) → i < n → i ≢ b → Dec (i ≡ a) → g i ≡ middle i
-    rest i h k (yes q) = ap g q ∙ ea ∙ sym (there i q)
-    rest i h k (no q) = o i h q k ∙ sym (off i q)
 
 -- ---- two positions of one product are put anew: lots l and book v of the account b, lots l′ and book v′ of the account c
 

@@ -17,8 +17,6 @@ ghost use Rattle.acts.specs.Trade as T;
 use places::Shape;
 use rules::Reply;
 
-const MOST_LOTS: i64 = 1_000_000;
-
 // A position in one product.
 pub struct Position {
     pub lots: i64,
@@ -118,7 +116,7 @@ fn terms_ok(words: &[i64], s: Shape, j: usize, lots: i64, price: i64) -> bool
     requires { ⌜ j < s .p ⌝ }
     ensures { λ r. ⌜ r ≡ T.termsOk (get byAccount s (now (words .entry))) j lots price ⌝ }
 {
-    if !whole::within(lots, 1, MOST_LOTS) {
+    if !whole::within(lots, 1, rules::sizes::MOST_LOTS) {
         return false;
     }
     whole::within(

@@ -10,7 +10,10 @@ ghost use Rattle.whole.specs.Reps.{Each};
 ghost use Rattle.portions.specs.Share as S;
 ghost use Rattle.portions.specs.Cut.{Cuts, Seen};
 ghost use Rattle.portions.specs.Bounds.{Weights, most-amount, most-members};
-use whole::divide::mul_div;
+use crate::divide::part_of;
+use crate::divide::ratio_of;
+
+pub mod divide;
 
 // The sum of the weights.
 pub fn sum_of(weights: &[u64]) -> u64
@@ -40,10 +43,11 @@ fn floors(
     ensures { λ _. ⌜ now (remainders .exit) ≡ filled (length (now (weights .entry))) (S.remainderOf (length (now (weights .entry))) (S.at (now (weights .entry))) amount) (now (remainders .entry)) ⌝ }
     ensures { λ _. ⌜ now (out .exit) ≡ S.floors amount (now (weights .entry)) ⌝ }
 {
+    let ready = ratio_of(amount, sum);
     let mut given: u64 = 0;
     let mut i: usize = 0;
     while i < weights.len() {
-        let part = mul_div(amount, weights[i], sum);
+        let part = part_of(ready, amount, weights[i], sum);
         remainders[i] = part.remainder;
         out[i] = part.quotient as i64;
         given += part.quotient;
@@ -161,17 +165,16 @@ fn clear(out: &mut [i64])
     }
 }
 
-// Shares an amount by weights: each word of `out` is that member's share. The amount may pass the sum of the weights; where there is nothing to share,
+// Shares an amount by weights, whose sum is known: each word of `out` is that member's share. The amount may pass the sum of the weights; where there is nothing to share,
 // or nobody to share it, all get 0.
-pub fn share(amount: u64, weights: &[u64], out: &mut [i64])
-    requires { ⌜ Weights (now weights) ⌝ ∗ ⌜ amount ≤ most-amount ⌝ ∗ ⌜ length (now out) ≡ length (now weights) ⌝ }
+pub fn share(amount: u64, sum: u64, weights: &[u64], out: &mut [i64])
+    requires { ⌜ Weights (now weights) ⌝ ∗ ⌜ amount ≤ most-amount ⌝ ∗ ⌜ length (now out) ≡ length (now weights) ⌝ ∗ ⌜ sum ≡ S.sumOf (now weights) ⌝ }
     ensures { λ _. ⌜ now (out .exit) ≡ S.shares amount (now (weights .entry)) ⌝ }
 {
     if amount == 0 {
         clear(out);
         return;
     }
-    let sum = sum_of(weights);
     if sum == 0 {
         clear(out);
         return;

@@ -1,4 +1,4 @@
-// The limits of document 01, "Units and sizes", that concern one account, one product or one call. All are inclusive; ranges go down to 0 or 1,
+// The limits of document 01, "Units and sizes", for one account, one product, one call, and the house. All are inclusive; ranges go down to 0 or 1,
 // or to the same size below 0.
 pub const MOST_YEN_PRICE: i64 = 5000000;
 

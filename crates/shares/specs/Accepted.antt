@@ -14,7 +14,7 @@ use Rattle.whole.specs.BelowLaws.{all-at}
 use Rattle.whole.specs.Reps.{Each}
 use Rattle.whole.specs.Tests.{both, in-range}
 use Rattle.whole.specs.Whole.{true-le}
-use Rattle.portions.specs.Words.{each-of}
+use Rattle.whole.specs.Listed.{each-of}
 use Rattle.portions.specs.Bounds.{most-members}
 use Rattle.shares.specs.Loss.{word, most-loss, most-figure, memberOk, membersOk, lengthsOk, refusal}
 

@@ -78,8 +78,9 @@ pub fn layer(most: u64, marks: &[i64], figures: &[i64], weights: &mut [u64], out
     ensures { λ _. ⌜ now (weights .exit) ≡ listed (length (now (figures .entry))) (L.weight (now (marks .entry)) (now (figures .entry))) ⌝ }
 {
     weigh(marks, figures, weights);
-    let amount = least(most, sum_of(weights));
-    share(amount, weights, out);
+    let sum = sum_of(weights);
+    let amount = least(most, sum);
+    share(amount, sum, weights, out);
     amount
 }
 

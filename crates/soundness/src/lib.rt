@@ -18,9 +18,7 @@ use places::Shape;
 use rules::Account;
 use rules::Reply;
 
-// The sizes of 01.
-const MOST_HOUSE: u64 = 100_000_000_000_000_000;
-
+// Accounts n 1..64, products p 1..16.
 const MOST_ACCOUNTS: i64 = 64;
 
 const MOST_PRODUCTS: i64 = 16;
@@ -90,7 +88,7 @@ fn head_ok(words: &[i64], s: Shape) -> bool
     requires { ⌜ Sized s (now words) ⌝ }
     ensures { λ r. ⌜ r ≡ S.headOk s (get byAccount s (now (words .entry))) ⌝ }
 {
-    if !whole::small(places::head_word(words, s, places::HOUSE), MOST_HOUSE) {
+    if !whole::small(places::head_word(words, s, places::HOUSE), rules::sizes::MOST_HOUSE) {
         return false;
     }
     let n = s.n;

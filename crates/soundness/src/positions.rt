@@ -12,7 +12,7 @@ ghost use Rattle.places.specs.ByAccount.{byAccount};
 ghost use Rattle.soundness.specs.Sound as S;
 use places::Shape;
 
-const MOST_LOTS: u64 = 1_000_000;
+const MOST_LOTS: u64 = rules::sizes::MOST_LOTS as u64;
 
 // Whether a position's lots are in range, and its book at most `most` in size.
 pub fn held_in(lots: i64, book: i64, most: u64) -> bool

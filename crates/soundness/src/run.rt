@@ -14,8 +14,6 @@ ghost use Rattle.soundness.specs.Sound as S;
 ghost use Rattle.soundness.specs.SoundLaws.{DuesIn};
 use places::Shape;
 
-const MOST_HOUSE: u64 = 100_000_000_000_000_000;
-
 // Whether due 0 is zero in the first `done` accounts.
 fn done_ok(words: &[i64], s: Shape, done: usize) -> bool
     requires { ⌜ Sized s (now words) ⌝ }
@@ -45,7 +43,7 @@ pub fn stays(words: &[i64], s: Shape, house: i64, from: usize) -> bool
     let mut a = from;
     while a < n {
         h -= places::acct_word(words, s, a, places::FIRST_DUE);
-        if !whole::small(h, MOST_HOUSE) {
+        if !whole::small(h, rules::sizes::MOST_HOUSE) {
             return false;
         }
         a += 1;

@@ -7,10 +7,12 @@ use native.Mathlib.Nat.{not-suc-le-zero}
 use native.Mathlib.Numerals.{add-one}
 use native.Mathlib.Omega.{arith}
 use lib.Dec.{ltb}
+use lib.IntN.{ℤ, pos, natAbs}
 use lib.ListN.{length, getD, drop, set, length-append, length-drop, drop-of-length-le, List·getD-append, List·getD-eq-default}
 use lib.Seq.{drop-cons, set-at, getD-at}
 use borrow.Author.Tests.{ltb-true, ltb-false}
 use Rattle.whole.specs.Below.{listed}
+use Rattle.whole.specs.Reps.{Each}
 use Rattle.whole.specs.Tests.{below-or-last, true-or-false}
 
 pub length-listed : {A : Type 0} (n : ℕ) (f : ℕ → A) → length (listed n f) ≡ n
@@ -34,6 +36,17 @@ listed-most n f b h i =
     (λ e. rw (getD-listed n f 0 i (ltb-true i n e)) (h i))
     (λ e. rw (List·getD-eq-default (listed n f) 0 {n = i} (rw (length-listed n f) (ltb-false i n e))) zero-le)
     (true-or-false (ltb i n))
+
+-- a bound on each word of a list is one on what is read past its end, which is 0
+pub each-of : (b : ℕ) (l : List ℤ) → ((i : ℕ) → i < length l → natAbs (getD l i (pos 0)) ≤ b) → Each b l
+each-of b l h =
+    record {
+      at =
+          λ i. ⊎-elim
+          (λ e. h i (ltb-true i (length l) e))
+          (λ e. rw (List·getD-eq-default l (pos 0) {n = i} (ltb-false i (length l) e)) zero-le)
+          (true-or-false (ltb i (length l)));
+    }
 
 pub listed-same : {A : Type 0} (n : ℕ) (f g : ℕ → A) → ((i : ℕ) → i < n → f i ≡ g i) → listed n f ≡ listed n g
 unfolding listed

@@ -5,8 +5,6 @@ ghost use lib.IntN.{pos, natAbs, _+ℤ_, _-ℤ_};
 ghost use lib.Signed.{_≤ℤ_};
 ghost use Rattle.whole.specs.Number as N;
 
-pub mod divide;
-
 // Whether x lies between lo and hi.
 pub fn within(x: i64, lo: i64, hi: i64) -> bool
     ensures { λ r. ⌜ r ≡ N.between lo hi x ⌝ }

@@ -18,67 +18,70 @@ use Rattle.portions.proofs.floors.Statement.{statement}
 use Rattle.portions.proofs.floors.Tie as tie
 
 abbrev Inv-loop : tie.InvT-loop
-Inv-loop amount sum weights remainders₀ out₀ given₀ i₀ remainders out given i =
+Inv-loop amount sum weights remainders₀ out₀ ready given₀ i₀ remainders out given i =
     let n = length weights in
     let w = at weights in
     (i ≤ n) × (length out ≡ n) × (remainders ≡ filled i (remainderOf n w amount) remainders₀) × (out ≡ filled i (λ k. pos (floorOf n w amount k)) out₀) × (given ≡ total i (floorOf n w amount))
 
 abbrev μ-loop : tie.MeasureT-loop
-μ-loop amount sum weights remainders₀ out₀ given₀ i₀ remainders out given i = length weights - i
+μ-loop amount sum weights remainders₀ out₀ ready given₀ i₀ remainders out given i = length weights - i
+
+ratio-of-requires : tie.Need-ratio-of-requires Inv-loop μ-loop
+ratio-of-requires c κs = search needs
 
 loop-holds : tie.Need-loop-holds Inv-loop μ-loop
 loop-holds c =
-    let a = c .before .args in
+    let a = c .before .before .args in
     let n = length (a .weights .now) in
     let w = at (a .weights .now) in
-    (zero-le, c .before .pre .1 .1 .1 .1 .0, filled-none (remainderOf n w (a .amount)) (a .remainders .now), filled-none (λ k. pos (floorOf n w (a .amount) k)) (a .out .now), refl)
+    (zero-le, c .before .before .pre .1 .1 .1 .1 .0, filled-none (remainderOf n w (a .amount)) (a .remainders .now), filled-none (λ k. pos (floorOf n w (a .amount) k)) (a .out .now), refl)
 
-mul-mul-div : tie.Need-mul-mul-div Inv-loop μ-loop
-mul-mul-div c = search needs
+mul-part-of : tie.Need-mul-part-of Inv-loop μ-loop
+mul-part-of c = search needs
 
-shared-slice-read-mul-div : tie.Need-shared-slice-read-mul-div Inv-loop μ-loop
-shared-slice-read-mul-div c = omega arith
+shared-slice-read-part-of : tie.Need-shared-slice-read-part-of Inv-loop μ-loop
+shared-slice-read-part-of c = omega arith
 
-mul-div-requires : tie.Need-mul-div-requires Inv-loop μ-loop
-mul-div-requires c κs =
-    let s = c .before .before .before .before in
+part-of-requires : tie.Need-part-of-requires Inv-loop μ-loop
+part-of-requires c κs =
+    let s = c .before .before .before .before .before in
     let ws = s .args .weights .now in
     let l = c .before .before .loop in
-    omega (arith, s .pre .1 .1 .0, s .pre .0 .few, total-most most-weight (length ws) (at ws) (λ k b. s .pre .0 .small k), total-one (length ws) (at ws) (l .i) (omega arith))
+    (c .before .before .before .ratio-of .ensures, omega (arith, s .pre .1 .1 .0, s .pre .0 .few, total-most most-weight (length ws) (at ws) (λ k b. s .pre .0 .small k), total-one (length ws) (at ws) (l .i) (omega arith)))
 
 mul-remainders : tie.Need-mul-remainders Inv-loop μ-loop
 mul-remainders c = search needs
 
 element-write-remainders : tie.Need-element-write-remainders Inv-loop μ-loop
-element-write-remainders c = omega (arith, c .before .before .before .before .before .pre .0 .few)
+element-write-remainders c = omega (arith, c .before .before .before .before .before .before .pre .0 .few)
 
--- what `mul_div` gave
-got : (c : tie.After-mul-div Inv-loop μ-loop) →
-    let a = c .before .before .before .before .before .args in
+-- what `part_of` gave
+got : (c : tie.After-part-of Inv-loop μ-loop) →
+    let a = c .before .before .before .before .before .before .args in
     let ws = a .weights .now in
     let i = c .before .before .before .loop .i in
-    (c .mul-div .result .quotient ≡ floorOf (length ws) (at ws) (a .amount) i) × (c .mul-div .result .remainder ≡ remainderOf (length ws) (at ws) (a .amount) i) × (c .mul-div .result .quotient ≤ a .amount)
+    (c .part-of .result .quotient ≡ floorOf (length ws) (at ws) (a .amount) i) × (c .part-of .result .remainder ≡ remainderOf (length ws) (at ws) (a .amount) i) × (c .part-of .result .quotient ≤ a .amount)
 unfolding floorOf remainderOf
 got c =
-    let s = c .before .before .before .before .before in
+    let s = c .before .before .before .before .before .before in
     let ws = s .args .weights .now in
     let w = s .pre .1 .1 .0 in
     let i = c .before .before .before .loop .i in
-    let q : c .mul-div .result .quotient ≡ floorOf (length ws) (at ws) (s .args .amount) i = rw w at (c .mul-div .ensures .0) in
-    (q, rw w at (c .mul-div .ensures .1), omega (arith, q, floor-most (length ws) (at ws) (s .args .amount) (rw w at (s .pre .1 .1 .1 .0)) i (omega arith)))
+    let q : c .part-of .result .quotient ≡ floorOf (length ws) (at ws) (s .args .amount) i = rw w at (c .part-of .ensures .0) in
+    (q, rw w at (c .part-of .ensures .1), omega (arith, q, floor-most (length ws) (at ws) (s .args .amount) (rw w at (s .pre .1 .1 .1 .0)) i (omega arith)))
 
 cast-out : tie.Need-cast-out Inv-loop μ-loop
 cast-out c = let g = got (c .before) in omega arith
 
-mul-t9 : tie.Need-mul-t9 Inv-loop μ-loop
-mul-t9 c = search needs
+mul-t10 : tie.Need-mul-t10 Inv-loop μ-loop
+mul-t10 c = search needs
 
 slice-set-from-out : tie.Need-slice-set-from-out Inv-loop μ-loop
 slice-set-from-out c = omega arith
 
 add-given : tie.Need-add-given Inv-loop μ-loop
 add-given c =
-    let s = c .before .before .before .before .before .before .before in
+    let s = c .before .before .before .before .before .before .before .before in
     let ws = s .args .weights .now in
     let l = c .before .before .before .before .before .loop in
     let g = got (c .before .before) in
@@ -93,12 +96,12 @@ loop-less c = omega arith
 
 loop-again : tie.Need-loop-again Inv-loop μ-loop
 loop-again c =
-    let a = c .before .before .before .before .before .before .before .args in
-    let p = c .before .before .before .before .before .before .before .pre in
+    let a = c .before .before .before .before .before .before .before .before .args in
+    let p = c .before .before .before .before .before .before .before .before .pre in
     let n = length (a .weights .now) in
     let w = at (a .weights .now) in
     let l = c .before .before .before .before .before .loop in
-    let r = c .before .before .mul-div .result in
+    let r = c .before .before .part-of .result in
     let g = got (c .before .before) in (
       omega arith,
       length-set (l .out) (l .i) (toZ w64 (r .quotient)) ∙ l .inv .1,
@@ -109,7 +112,7 @@ loop-again c =
 
 sub-result : tie.Need-sub-result Inv-loop μ-loop
 sub-result c =
-    let s = c .before .before .before in
+    let s = c .before .before .before .before in
     let ws = s .args .weights .now in
     let l = c .before .loop in
     let n : l .i ≡ length ws = omega arith in
@@ -122,7 +125,7 @@ same-length c = omega arith
 returns : tie.Need-returns Inv-loop μ-loop
 unfolding left
 returns c =
-    let s = c .before .before .before in
+    let s = c .before .before .before .before in
     let ws = s .args .weights .now in
     let l = c .before .loop in
     let n : l .i ≡ length ws = omega arith in
@@ -134,14 +137,15 @@ floors-spec =
     (tie.spec
     Inv-loop
     μ-loop
+    ratio-of-requires
     loop-holds
-    mul-mul-div
-    shared-slice-read-mul-div
-    mul-div-requires
+    mul-part-of
+    shared-slice-read-part-of
+    part-of-requires
     mul-remainders
     element-write-remainders
     cast-out
-    mul-t9
+    mul-t10
     slice-set-from-out
     add-given
     add-i

@@ -8,11 +8,10 @@ use borrow.Author.Needs.{needs}
 use lib.IntN.{ℤ, pos, _+ℤ_, natAbs}
 use lib.ListN.{length, getD}
 use Rattle.whole.specs.Below.{total, one-if, listed}
-use Rattle.whole.specs.Listed.{length-listed, getD-listed, listed-same, filled, getD-filled}
+use Rattle.whole.specs.Listed.{each-of, length-listed, getD-listed, listed-same, filled, getD-filled}
 use Rattle.whole.specs.Reps.{Each}
 use Rattle.portions.specs.Share.{at, comes, floorOf, remainderOf, left, shareOf}
 use Rattle.portions.specs.Bounds.{most-amount}
-use Rattle.portions.specs.Words.{each-of}
 use Rattle.portions.specs.Order.{place-same}
 use Rattle.portions.specs.Cut.{Cuts}
 use Rattle.portions.specs.ShareLaws.{floor-most, rem-lt, share-is, share-none, share-nothing}
@@ -61,10 +60,7 @@ returns : tie.Need-returns
 returns c =
     let s = c .before .before .before .before .before in
     let ws = s .args .weights .now in
-    c .before .clear .ensures ∙ rw (s .pre .1 .1) (zeros (length ws) (at ws) (s .args .amount) (share-nothing (length ws) (at ws) (s .args .amount) (c .before .before .before .if1 .taken)))
-
-sum-of-requires : tie.Need-sum-of-requires
-sum-of-requires c κs = search needs
+    c .before .clear .ensures ∙ rw (s .pre .1 .1 .0) (zeros (length ws) (at ws) (s .args .amount) (share-nothing (length ws) (at ws) (s .args .amount) (c .before .before .before .if1 .taken)))
 
 clear-requires-2 : tie.Need-clear-requires-2
 clear-requires-2 c κs = search needs
@@ -75,28 +71,28 @@ same-length-2 c = search needs
 returns-2 : tie.Need-returns-2
 returns-2 c =
     let d = c .before .before .before in
-    let s = d .before .before .before .before in
+    let s = d .before .before .before in
     let ws = s .args .weights .now in
-    c .before .clear2 .ensures ∙ rw (s .pre .1 .1) (zeros (length ws) (at ws) (s .args .amount) (share-none (length ws) (at ws) (s .args .amount) (sym (d .before .sum-of .ensures) ∙ d .if2 .taken)))
+    c .before .clear2 .ensures ∙ rw (s .pre .1 .1 .0) (zeros (length ws) (at ws) (s .args .amount) (share-none (length ws) (at ws) (s .args .amount) (sym (s .pre .1 .1 .1) ∙ d .if2 .taken)))
 
 floors-requires : tie.Need-floors-requires
 floors-requires c κs = search needs
 
 -- somebody has a weight
-some-weight : (c : tie.After-floors) → let ws = c .before .before .before .before .before .before .before .args .weights .now in 0 < total (length ws) (at ws)
-some-weight c = let d = c .before .before .before in let l = d .if2 .left in omega (arith, d .before .sum-of .ensures)
+some-weight : (c : tie.After-floors) → let ws = c .before .before .before .before .before .before .args .weights .now in 0 < total (length ws) (at ws)
+some-weight c = let d = c .before .before .before in let l = d .if2 .left in omega arith
 
 cut-of-requires : tie.Need-cut-of-requires
 cut-of-requires c κs =
     let d = c .before .before in
-    let s = d .before .before .before .before .before .before .before in
+    let s = d .before .before .before .before .before .before in
     let ws = s .args .weights .now in
-    (s .pre .0 .few, rw (d .before .before .before .before .sum-of .ensures) (below-sum (length ws) (at ws) (s .args .amount) (some-weight d) _ _ (d .floors .ensures .1 .0)))
+    (s .pre .0 .few, rw (s .pre .1 .1 .1) (below-sum (length ws) (at ws) (s .args .amount) (some-weight d) _ _ (d .floors .ensures .1 .0)))
 
 hand-out-requires : tie.Need-hand-out-requires
 hand-out-requires c κs =
     let d = c .before .before .before .before .before in
-    let s = d .before .before .before .before .before .before .before in
+    let s = d .before .before .before .before .before .before in
     let ws = s .args .weights .now in
     let f = d .floors .ensures .1 .1 in
     (omega (arith, s .pre .0 .few, ap length f ∙ length-listed (length ws) (λ i. pos (floorOf (length ws) (at ws) (s .args .amount) i))), rw f (within (length ws) (at ws) (s .args .amount) (some-weight d) (s .pre .1 .0)))
@@ -108,7 +104,7 @@ returns-3 : tie.Need-returns-3
 returns-3 c =
     let k = c .before .before .before .before in
     let d = k .before .before .before in
-    let s = d .before .before .before .before .before .before .before in
+    let s = d .before .before .before .before .before .before in
     let ws = s .args .weights .now in
     let e = d .floors .ensures in
     shared (length ws) (at ws) (s .args .amount) (some-weight d) _ _ (e .1 .0) _ _ _ (e .0) (k .cut-of .ensures) _ _ (e .1 .1) (c .before .hand-out .ensures)
@@ -120,7 +116,6 @@ share-spec =
     clear-requires
     same-length
     returns
-    sum-of-requires
     clear-requires-2
     same-length-2
     returns-2

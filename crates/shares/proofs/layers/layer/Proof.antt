@@ -75,7 +75,7 @@ share-requires c κs =
     let w = c .before .before .before .before .before .before .before in
     let m = s .args .marks .now in
     let f = s .args .figures .now in
-    (weights-ok m f _ (w .weigh .ensures) (s .pre .1 .1 .1 .0) (s .pre .1 .1 .1 .1 .0), (omega (arith, amount-is (c .before .before), layer-most (s .args .most) m f, s .pre .1 .1 .1 .1 .1), s .pre .1 .1 .0 ∙ sym (sized m f _ (w .weigh .ensures))))
+    (weights-ok m f _ (w .weigh .ensures) (s .pre .1 .1 .1 .0) (s .pre .1 .1 .1 .1 .0), (omega (arith, amount-is (c .before .before), layer-most (s .args .most) m f, s .pre .1 .1 .1 .1 .1), (s .pre .1 .1 .0 ∙ sym (sized m f _ (w .weigh .ensures)), c .before .before .before .sum-of .ensures)))
 
 same-length : tie.Need-same-length
 same-length c = search needs

@@ -1,46 +1,44 @@
--- `long_division` meets its contract. The loop's invariant: `high` is what the digits passed say, and `sofar` divides high * b by c.
+-- `mul_div` meets its contract. The loop's invariant: `high` is what the digits passed say, and `sofar` divides high * b by c.
 -- Assumes nothing.
 use mathlib.Core.Path.{_≡_, refl, sym, ap, _∙_}
-use Prim.Native.Nat.{ℕ, suc, _+_, _*_, _-_, _/_, _%_, _^_, _≤_, _<_, zero-le}
-use native.Mathlib.Nat.{div-add-mod', mod-lt, le-of-mul-le-mul-right, mul-le-mul, mul-le-mul-right, mul-comm, div-eq-of-lt, div-one, zero-mul}
+use Prim.Native.Nat.{_+_, _*_, _-_, _/_, _^_, _≤_, _<_}
+use native.Mathlib.Nat.{div-add-mod', mod-lt, le-of-mul-le-mul-right, mul-le-mul, mul-le-mul-right, div-eq-of-lt, div-one}
 use native.Mathlib.Omega.{arith}
 use lib.Arith.{digits-div, digits-mod}
-use lib.Pow.{shr-shr, shr-le, pow-pos}
-use Rattle.whole.proofs.divide.long_division.Statement.{statement}
-use Rattle.whole.proofs.divide.long_division.Tie as tie
+use lib.Pow.{shr-shr, shr-le}
+use Rattle.portions.proofs.divide.mul_div.Statement.{statement}
+use Rattle.portions.proofs.divide.mul_div.Tie as tie
 
 abbrev Inv-loop : tie.InvT-loop
-Inv-loop a b c width base digits k₀ high₀ sofar₀ k high sofar =
-    (k ≤ digits) × (high ≡ a / 2 ^ (k * width)) × (sofar .quotient * c + sofar .remainder ≡ high * b) × (sofar .remainder < c)
+Inv-loop a b c k₀ high₀ sofar₀ k high sofar =
+    (k ≤ 10) × (high ≡ a / 2 ^ (k * 6)) × (sofar .quotient * c + sofar .remainder ≡ high * b) × (sofar .remainder < c)
 
 abbrev μ-loop : tie.MeasureT-loop
-μ-loop a b c width base digits k₀ high₀ sofar₀ k high sofar = k
+μ-loop a b c k₀ high₀ sofar₀ k high sofar = k
 
 loop-holds : tie.Need-loop-holds Inv-loop μ-loop
-loop-holds c = (omega arith, sym (div-eq-of-lt (c .pre .1 .1 .1 .1 .1 .1 .1)), omega arith, omega arith)
+loop-holds c = (omega arith, sym (div-eq-of-lt (omega arith)), omega arith, omega arith)
 
 -- where the next digit stands, and what it is
 place : (c : tie.In-loop Inv-loop μ-loop) →
     let s = c .before .before .args in
     let l = c .before .loop in
-    let next = s .a / 2 ^ ((l .k - 1) * s .width) in
-    ((l .k - 1) * s .width < 64) × (l .high * s .base ≤ next) × (next < l .high * s .base + s .base) × (next ≤ s .a) × (l .sofar .quotient ≤ l .high)
+    let next = s .a / 2 ^ ((l .k - 1) * 6) in
+    ((l .k - 1) * 6 < 64) × (l .high * 64 ≤ next) × (next < l .high * 64 + 64) × (next ≤ s .a) × (l .sofar .quotient ≤ l .high)
 place c =
     let s = c .before .before .args in
     let l = c .before .loop in
     let j = l .k - 1 in
-    let next = s .a / 2 ^ (j * s .width) in
+    let next = s .a / 2 ^ (j * 6) in
     let e : l .k ≡ j + 1 = omega arith in
-    let t : l .k * s .width ≡ j * s .width + s .width = ap (λ x. x * s .width) e ∙ omega arith in
-    let w : s .base ≡ 2 ^ s .width = c .before .before .pre .1 .1 .1 .0 in
-    let h : next / s .base ≡ l .high = rw w (shr-shr (s .a) (j * s .width) (s .width)) ∙ rw t at (sym (l .inv .1)) in
-    let p : 0 < s .base = rw w (pow-pos (s .width)) in
-    let m = div-add-mod' next (s .base) in
-    let d : next / s .base * s .base ≡ l .high * s .base = ap (λ x. x * s .base) h in (
-      omega (arith, mul-le-mul-right (s .width) (l .inv .0)),
+    let t : l .k * 6 ≡ j * 6 + 6 = ap (λ x. x * 6) e ∙ omega arith in
+    let h : next / 64 ≡ l .high = shr-shr (s .a) (j * 6) 6 ∙ rw t at (sym (l .inv .1)) in
+    let m = div-add-mod' next 64 in
+    let d : next / 64 * 64 ≡ l .high * 64 = ap (λ x. x * 64) h in (
+      omega (arith, mul-le-mul-right 6 (l .inv .0)),
       omega arith,
-      omega (arith, mod-lt next p),
-      shr-le (s .a) (j * s .width),
+      omega (arith, mod-lt next {m = 64} (omega arith)),
+      shr-le (s .a) (j * 6),
       le-of-mul-le-mul-right {k = s .c} (omega (arith, mul-le-mul {n₁ = l .high} {m₁ = s .b} {n₂ = l .high} {m₂ = s .c} (omega arith) (omega arith))) (omega arith),
     )
 
@@ -64,7 +62,7 @@ next-digit-requires c κs =
     let s = c .before .before .args in
     let l = c .before .loop in
     let p = place c in
-    omega (arith, mul-le-mul-right (s .base) (p .4))
+    omega (arith, mul-le-mul-right (64) (p .4))
 
 loop-less : tie.Need-loop-less Inv-loop μ-loop
 loop-less c = omega arith
@@ -75,9 +73,9 @@ loop-again c =
     let l = c .before .before .loop in
     let p = place (c .before) in
     let e = c .next-digit .ensures in
-    let m = ap (λ x. x * s .base) (l .inv .2) in
-    let next = s .a / 2 ^ ((l .k - 1) * s .width) in
-    let d : next ≡ l .high * s .base + (next - l .high * s .base) = omega arith in
+    let m = ap (λ x. x * 64) (l .inv .2) in
+    let next = s .a / 2 ^ ((l .k - 1) * 6) in
+    let d : next ≡ l .high * 64 + (next - l .high * 64) = omega arith in
     (omega arith, refl, omega (arith, ap (λ x. x * s .b) d), e .1)
 
 returns : tie.Need-returns Inv-loop μ-loop
@@ -85,12 +83,12 @@ returns c =
     let s = c .before .before .args in
     let l = c .before .loop in
     let z : l .k ≡ 0 = omega arith in
-    let h : l .high ≡ s .a = l .inv .1 ∙ rw (z, zero-mul (s .width)) (div-one (s .a)) in
+    let h : l .high ≡ s .a = l .inv .1 ∙ rw z (div-one (s .a)) in
     let e : s .a * s .b ≡ l .sofar .quotient * s .c + l .sofar .remainder = rw h at (sym (l .inv .2)) in
     (rw e (sym (digits-div (l .sofar .quotient) (l .inv .3))), rw e (sym (digits-mod (l .sofar .quotient) (l .inv .3))))
 
-pub long-division-spec : {M : Type 1} → statement M
-long-division-spec =
+pub mul-div-spec : {M : Type 1} → statement M
+mul-div-spec =
     tie.close
     (tie.spec
     Inv-loop
