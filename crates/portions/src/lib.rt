@@ -34,11 +34,11 @@ fn floors(
     amount: u64,
     sum: u64,
     weights: &[u64],
-    remainders: &mut [u64; 64],
+    remainders: &mut [u64],
     out: &mut [i64],
 ) -> u64
     requires { ⌜ Weights (now weights) ⌝ ∗ ⌜ amount ≤ most-amount ⌝ }
-    requires { ⌜ sum ≡ S.sumOf (now weights) ⌝ ∗ ⌜ 0 < sum ⌝ ∗ ⌜ length (now out) ≡ length (now weights) ⌝ ∗ ⌜ length (now remainders) ≡ most-members ⌝ }
+    requires { ⌜ sum ≡ S.sumOf (now weights) ⌝ ∗ ⌜ 0 < sum ⌝ ∗ ⌜ length (now out) ≡ length (now weights) ⌝ ∗ ⌜ length (now weights) ≤ length (now remainders) ⌝ }
     ensures { λ r. ⌜ r ≡ S.left (length (now (weights .entry))) (S.at (now (weights .entry))) amount ⌝ }
     ensures { λ _. ⌜ now (remainders .exit) ≡ filled (length (now (weights .entry))) (S.remainderOf (length (now (weights .entry))) (S.at (now (weights .entry))) amount) (now (remainders .entry)) ⌝ }
     ensures { λ _. ⌜ now (out .exit) ≡ S.floors amount (now (weights .entry)) ⌝ }
@@ -64,8 +64,8 @@ pub fn comes_before(x: u64, j: usize, y: u64, i: usize) -> bool
 }
 
 // How many of n members come before member i.
-fn place_of(remainders: &[u64; 64], n: usize, i: usize) -> u64
-    requires { ⌜ n ≤ most-members ⌝ ∗ ⌜ i < n ⌝ }
+fn place_of(remainders: &[u64], n: usize, i: usize) -> u64
+    requires { ⌜ n ≤ most-members ⌝ ∗ ⌜ i < n ⌝ ∗ ⌜ n ≤ length (now remainders) ⌝ }
     ensures { λ r. ⌜ r ≡ S.place n (S.at (now (remainders .entry))) i ⌝ }
 {
     let own = remainders[i];
@@ -95,8 +95,8 @@ struct Cut {
 }
 
 // Looks at member i. His place is counted only where he stands between the two.
-fn narrow(yen: u64, remainders: &[u64; 64], n: usize, i: usize, cut: Cut) -> Cut
-    requires { ⌜ n ≤ most-members ⌝ ∗ ⌜ i < n ⌝ ∗ ⌜ Seen n (S.at (now remainders)) yen i (cut .last) (cut .owner) (cut .next) (cut .other) ⌝ }
+fn narrow(yen: u64, remainders: &[u64], n: usize, i: usize, cut: Cut) -> Cut
+    requires { ⌜ n ≤ most-members ⌝ ∗ ⌜ i < n ⌝ ∗ ⌜ n ≤ length (now remainders) ⌝ ∗ ⌜ Seen n (S.at (now remainders)) yen i (cut .last) (cut .owner) (cut .next) (cut .other) ⌝ }
     ensures { λ r. ⌜ Seen n (S.at (now (remainders .entry))) yen (i + 1) (r .last) (r .owner) (r .next) (r .other) ⌝ }
 {
     let own = remainders[i];
@@ -124,8 +124,8 @@ fn narrow(yen: u64, remainders: &[u64; 64], n: usize, i: usize, cut: Cut) -> Cut
 }
 
 // The cut, when all n members are seen. `sum` is above every remainder.
-fn cut_of(yen: u64, sum: u64, remainders: &[u64; 64], n: usize) -> Cut
-    requires { ⌜ n ≤ most-members ⌝ ∗ ⌜ ((i : ℕ) → i < n → S.at (now remainders) i < sum) ⌝ }
+fn cut_of(yen: u64, sum: u64, remainders: &[u64], n: usize) -> Cut
+    requires { ⌜ n ≤ most-members ⌝ ∗ ⌜ n ≤ length (now remainders) ⌝ ∗ ⌜ ((i : ℕ) → i < n → S.at (now remainders) i < sum) ⌝ }
     ensures { λ r. ⌜ Cuts n (S.at (now (remainders .entry))) yen (r .last) (r .owner) ⌝ }
 {
     let mut cut = Cut {
@@ -143,8 +143,8 @@ fn cut_of(yen: u64, sum: u64, remainders: &[u64; 64], n: usize) -> Cut
 }
 
 // Gives a yen to each member whom the last owner does not come before.
-fn hand_out(last: u64, owner: usize, remainders: &[u64; 64], out: &mut [i64])
-    requires { ⌜ length (now out) ≤ most-members ⌝ ∗ ⌜ Each most-amount (now out) ⌝ }
+fn hand_out(last: u64, owner: usize, remainders: &[u64], out: &mut [i64])
+    requires { ⌜ length (now out) ≤ length (now remainders) ⌝ ∗ ⌜ Each most-amount (now out) ⌝ }
     ensures { λ _. ⌜ now (out .exit) ≡ listed (length (now (out .entry))) (λ i. getD (now (out .entry)) i (pos 0) +ℤ pos (one-if (not (S.comes last owner (S.at (now (remainders .entry)) i) i)))) ⌝ }
 {
     let mut i: usize = 0;
@@ -165,8 +165,19 @@ fn clear(out: &mut [i64])
     }
 }
 
-// Shares an amount by weights, whose sum is known: each word of `out` is that member's share. The amount may pass the sum of the weights; where there is nothing to share,
-// or nobody to share it, all get 0.
+// The same with room lent for the remainders, where there is something to share and somebody to share it.
+fn share_with(amount: u64, sum: u64, weights: &[u64], remainders: &mut [u64], out: &mut [i64])
+    requires { ⌜ Weights (now weights) ⌝ ∗ ⌜ amount ≤ most-amount ⌝ ∗ ⌜ length (now out) ≡ length (now weights) ⌝ ∗ ⌜ sum ≡ S.sumOf (now weights) ⌝ }
+    requires { ⌜ 0 < sum ⌝ ∗ ⌜ length (now weights) ≤ length (now remainders) ⌝ }
+    ensures { λ _. ⌜ now (out .exit) ≡ S.shares amount (now (weights .entry)) ⌝ }
+{
+    let yen = floors(amount, sum, weights, remainders, out);
+    let cut = cut_of(yen, sum, remainders, weights.len());
+    hand_out(cut.last, cut.owner, remainders, out);
+}
+
+// Shares an amount by weights, whose sum is known: each word of `out` is that member's share. The amount may pass the sum of the weights; where there is
+// nothing to share, or nobody to share it, all get 0. Eight members or fewer need no room for 64.
 pub fn share(amount: u64, sum: u64, weights: &[u64], out: &mut [i64])
     requires { ⌜ Weights (now weights) ⌝ ∗ ⌜ amount ≤ most-amount ⌝ ∗ ⌜ length (now out) ≡ length (now weights) ⌝ ∗ ⌜ sum ≡ S.sumOf (now weights) ⌝ }
     ensures { λ _. ⌜ now (out .exit) ≡ S.shares amount (now (weights .entry)) ⌝ }
@@ -179,8 +190,11 @@ pub fn share(amount: u64, sum: u64, weights: &[u64], out: &mut [i64])
         clear(out);
         return;
     }
+    if weights.len() <= 8 {
+        let mut few: [u64; 8] = [0; 8];
+        share_with(amount, sum, weights, &mut few, out);
+        return;
+    }
     let mut remainders: [u64; 64] = [0; 64];
-    let yen = floors(amount, sum, weights, &mut remainders, out);
-    let cut = cut_of(yen, sum, &remainders, weights.len());
-    hand_out(cut.last, cut.owner, &remainders, out);
+    share_with(amount, sum, weights, &mut remainders, out);
 }

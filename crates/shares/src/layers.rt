@@ -70,7 +70,7 @@ fn least(a: u64, b: u64) -> u64
 }
 
 // Shares a layer of at most `most`, and says how large it is. The weights are left in `weights`.
-pub fn layer(most: u64, marks: &[i64], figures: &[i64], weights: &mut [u64], out: &mut [i64]) -> u64
+fn layer(most: u64, marks: &[i64], figures: &[i64], weights: &mut [u64], out: &mut [i64]) -> u64
     requires { ⌜ length (now marks) ≡ length (now figures) ⌝ ∗ ⌜ length (now weights) ≡ length (now figures) ⌝ ∗ ⌜ length (now out) ≡ length (now figures) ⌝ ∗ ⌜ length (now figures) ≤ most-members ⌝ }
     requires { ⌜ Each L.most-figure (now figures) ⌝ ∗ ⌜ most ≤ L.most-loss ⌝ }
     ensures { λ r. ⌜ r ≡ L.layer most (now (marks .entry)) (now (figures .entry)) ⌝ }
@@ -85,7 +85,7 @@ pub fn layer(most: u64, marks: &[i64], figures: &[i64], weights: &mut [u64], out
 }
 
 // Shares both layers; what remains of the loss. Layer two's weights are left in `weights`.
-pub fn both_layers(
+fn both_layers(
     loss: u64,
     deposits: &[i64],
     differences: &[i64],
@@ -106,4 +106,44 @@ pub fn both_layers(
     let most = least(rest, negatives(marks, differences));
     let two = layer(most, marks, differences, weights, second);
     rest - two
+}
+
+// The same with room of its own for the weights: eight members or fewer need no room for 64.
+pub fn shared(
+    loss: u64,
+    deposits: &[i64],
+    differences: &[i64],
+    marks: &[i64],
+    first: &mut [i64],
+    second: &mut [i64],
+) -> u64
+    requires { ⌜ Lengths (length (now deposits)) (length (now differences)) (length (now marks)) (length (now deposits)) (length (now first)) (length (now second)) ⌝ }
+    requires { ⌜ Each L.most-figure (now deposits) ⌝ ∗ ⌜ Each L.most-figure (now differences) ⌝ ∗ ⌜ loss ≤ L.most-loss ⌝ }
+    ensures { λ r. ⌜ r ≡ L.remains loss (now (deposits .entry)) (now (differences .entry)) (now (marks .entry)) ⌝ }
+    ensures { λ _. ⌜ now (first .exit) ≡ L.sharesOne loss (now (deposits .entry)) (now (marks .entry)) ⌝ }
+    ensures { λ _. ⌜ now (second .exit) ≡ L.sharesTwo loss (now (deposits .entry)) (now (differences .entry)) (now (marks .entry)) ⌝ }
+{
+    let n = deposits.len();
+    if n <= 8 {
+        let mut few: [u64; 8] = [0; 8];
+        return both_layers(
+            loss,
+            deposits,
+            differences,
+            marks,
+            &mut few[..n],
+            first,
+            second,
+        );
+    }
+    let mut weights: [u64; 64] = [0; 64];
+    both_layers(
+        loss,
+        deposits,
+        differences,
+        marks,
+        &mut weights[..n],
+        first,
+        second,
+    )
 }

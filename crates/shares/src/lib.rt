@@ -1,7 +1,7 @@
 // Sharing a default loss among the members (document 01, "Sharing a default loss"; source 000, article 12-7(2)).
 ghost use mathlib.Core.Path.{_≡_};
 ghost use Rattle.shares.specs.Loss as L;
-use crate::layers::both_layers;
+use crate::layers::shared;
 use crate::refusals::refusal;
 use rules::Reply;
 use whole::up;
@@ -35,17 +35,7 @@ pub fn share_loss(
             figure: 0,
         };
     }
-    let n = deposits.len();
-    let mut weights: [u64; 64] = [0; 64];
-    let rest = both_layers(
-        up(loss),
-        deposits,
-        differences,
-        marks,
-        &mut weights[..n],
-        first,
-        second,
-    );
+    let rest = shared(up(loss), deposits, differences, marks, first, second);
     Reply {
         number: 0,
         figure: rest as i64,

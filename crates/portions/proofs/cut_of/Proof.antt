@@ -14,10 +14,10 @@ abbrev μ-loop : tie.MeasureT-loop
 μ-loop yen sum remainders n cut₀ i₀ cut i = n - i
 
 loop-holds : tie.Need-loop-holds Inv-loop μ-loop
-loop-holds c = (zero-le, seen-none (c .args .sum) (c .pre .1))
+loop-holds c = (zero-le, seen-none (c .before .args .sum) (c .before .pre .1 .1))
 
 narrow-requires : tie.Need-narrow-requires Inv-loop μ-loop
-narrow-requires c κs = (c .before .before .pre .0, (omega arith, c .before .loop .inv .1))
+narrow-requires c κs = (c .before .before .before .pre .0, (omega arith, (c .before .before .before .pre .1 .0, c .before .loop .inv .1)))
 
 add-i : tie.Need-add-i Inv-loop μ-loop
 add-i c = omega arith
@@ -31,7 +31,7 @@ loop-again c = (omega arith, c .narrow .ensures)
 returns : tie.Need-returns Inv-loop μ-loop
 returns c =
     let l = c .before .loop in
-    let e : l .i ≡ c .before .before .args .n = omega arith in
+    let e : l .i ≡ c .before .before .before .args .n = omega arith in
     seen-all (rw e at (l .inv .1))
 
 pub cut-of-spec : {M : Type 1} → statement M

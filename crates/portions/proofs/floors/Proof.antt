@@ -21,7 +21,7 @@ abbrev Inv-loop : tie.InvT-loop
 Inv-loop amount sum weights remainders₀ out₀ ready given₀ i₀ remainders out given i =
     let n = length weights in
     let w = at weights in
-    (i ≤ n) × (length out ≡ n) × (remainders ≡ filled i (remainderOf n w amount) remainders₀) × (out ≡ filled i (λ k. pos (floorOf n w amount k)) out₀) × (given ≡ total i (floorOf n w amount))
+    (i ≤ n) × (length out ≡ n) × (remainders ≡ filled i (remainderOf n w amount) remainders₀) × (out ≡ filled i (λ k. pos (floorOf n w amount k)) out₀) × (given ≡ total i (floorOf n w amount)) × (length remainders ≡ length remainders₀)
 
 abbrev μ-loop : tie.MeasureT-loop
 μ-loop amount sum weights remainders₀ out₀ ready given₀ i₀ remainders out given i = length weights - i
@@ -31,10 +31,10 @@ ratio-of-requires c κs = search needs
 
 loop-holds : tie.Need-loop-holds Inv-loop μ-loop
 loop-holds c =
-    let a = c .before .before .args in
+    let a = c .before .before .before .args in
     let n = length (a .weights .now) in
     let w = at (a .weights .now) in
-    (zero-le, c .before .before .pre .1 .1 .1 .1 .0, filled-none (remainderOf n w (a .amount)) (a .remainders .now), filled-none (λ k. pos (floorOf n w (a .amount) k)) (a .out .now), refl)
+    (zero-le, c .before .before .before .pre .1 .1 .1 .1 .0, filled-none (remainderOf n w (a .amount)) (a .remainders .now), filled-none (λ k. pos (floorOf n w (a .amount) k)) (a .out .now), refl, refl)
 
 mul-part-of : tie.Need-mul-part-of Inv-loop μ-loop
 mul-part-of c = search needs
@@ -44,7 +44,7 @@ shared-slice-read-part-of c = omega arith
 
 part-of-requires : tie.Need-part-of-requires Inv-loop μ-loop
 part-of-requires c κs =
-    let s = c .before .before .before .before .before in
+    let s = c .before .before .before .before .before .before in
     let ws = s .args .weights .now in
     let l = c .before .before .loop in
     (c .before .before .before .ratio-of .ensures, omega (arith, s .pre .1 .1 .0, s .pre .0 .few, total-most most-weight (length ws) (at ws) (λ k b. s .pre .0 .small k), total-one (length ws) (at ws) (l .i) (omega arith)))
@@ -52,18 +52,18 @@ part-of-requires c κs =
 mul-remainders : tie.Need-mul-remainders Inv-loop μ-loop
 mul-remainders c = search needs
 
-element-write-remainders : tie.Need-element-write-remainders Inv-loop μ-loop
-element-write-remainders c = omega (arith, c .before .before .before .before .before .before .pre .0 .few)
+slice-write-remainders : tie.Need-slice-write-remainders Inv-loop μ-loop
+slice-write-remainders c = omega (arith, c .before .before .before .before .before .before .before .pre .0 .few)
 
 -- what `part_of` gave
 got : (c : tie.After-part-of Inv-loop μ-loop) →
-    let a = c .before .before .before .before .before .before .args in
+    let a = c .before .before .before .before .before .before .before .args in
     let ws = a .weights .now in
     let i = c .before .before .before .loop .i in
     (c .part-of .result .quotient ≡ floorOf (length ws) (at ws) (a .amount) i) × (c .part-of .result .remainder ≡ remainderOf (length ws) (at ws) (a .amount) i) × (c .part-of .result .quotient ≤ a .amount)
 unfolding floorOf remainderOf
 got c =
-    let s = c .before .before .before .before .before .before in
+    let s = c .before .before .before .before .before .before .before in
     let ws = s .args .weights .now in
     let w = s .pre .1 .1 .0 in
     let i = c .before .before .before .loop .i in
@@ -81,7 +81,7 @@ slice-set-from-out c = omega arith
 
 add-given : tie.Need-add-given Inv-loop μ-loop
 add-given c =
-    let s = c .before .before .before .before .before .before .before .before in
+    let s = c .before .before .before .before .before .before .before .before .before in
     let ws = s .args .weights .now in
     let l = c .before .before .before .before .before .loop in
     let g = got (c .before .before) in
@@ -96,8 +96,8 @@ loop-less c = omega arith
 
 loop-again : tie.Need-loop-again Inv-loop μ-loop
 loop-again c =
-    let a = c .before .before .before .before .before .before .before .before .args in
-    let p = c .before .before .before .before .before .before .before .before .pre in
+    let a = c .before .before .before .before .before .before .before .before .before .args in
+    let p = c .before .before .before .before .before .before .before .before .before .pre in
     let n = length (a .weights .now) in
     let w = at (a .weights .now) in
     let l = c .before .before .before .before .before .loop in
@@ -108,11 +108,12 @@ loop-again c =
       filled-step (l .i) (remainderOf n w (a .amount)) (a .remainders .now) (l .remainders) (r .remainder) (l .inv .2) (omega (arith, p .0 .few, p .1 .1 .1 .1 .1)) (g .1),
       filled-step (l .i) (λ k. pos (floorOf n w (a .amount) k)) (a .out .now) (l .out) (toZ w64 (r .quotient)) (l .inv .3) (omega arith) (toZ-pos w64 (r .quotient) (omega arith) ∙ ap pos (g .0)),
       total-step (l .i) (floorOf n w (a .amount)) (l .given) (r .quotient) (l .inv .4) (g .0),
+      length-set (l .remainders) (l .i) (r .remainder) ∙ l .inv .5,
     )
 
 sub-result : tie.Need-sub-result Inv-loop μ-loop
 sub-result c =
-    let s = c .before .before .before .before in
+    let s = c .before .before .before .before .before in
     let ws = s .args .weights .now in
     let l = c .before .loop in
     let n : l .i ≡ length ws = omega arith in
@@ -122,10 +123,13 @@ sub-result c =
 same-length : tie.Need-same-length Inv-loop μ-loop
 same-length c = omega arith
 
+same-length-2 : tie.Need-same-length-2 Inv-loop μ-loop
+same-length-2 c = omega arith
+
 returns : tie.Need-returns Inv-loop μ-loop
 unfolding left
 returns c =
-    let s = c .before .before .before .before in
+    let s = c .before .before .before .before .before in
     let ws = s .args .weights .now in
     let l = c .before .loop in
     let n : l .i ≡ length ws = omega arith in
@@ -143,7 +147,7 @@ floors-spec =
     shared-slice-read-part-of
     part-of-requires
     mul-remainders
-    element-write-remainders
+    slice-write-remainders
     cast-out
     mul-t10
     slice-set-from-out
@@ -153,4 +157,5 @@ floors-spec =
     loop-again
     sub-result
     same-length
+    same-length-2
     returns)

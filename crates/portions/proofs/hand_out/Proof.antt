@@ -28,16 +28,16 @@ abbrev μ-loop : tie.MeasureT-loop
 μ-loop last owner remainders out₀ i₀ out i = length out₀ - i
 
 loop-holds : tie.Need-loop-holds Inv-loop μ-loop
-loop-holds c = let a = c .args in (zero-le, refl, filled-none (after (a .last) (a .owner) (a .remainders .now) (a .out .now)) (a .out .now))
+loop-holds c = let a = c .before .args in (zero-le, refl, filled-none (after (a .last) (a .owner) (a .remainders .now) (a .out .now)) (a .out .now))
 
 -- the word that is read is as it was
-same : (c : tie.In-loop Inv-loop μ-loop) → toZ w64 (ofZ w64 (getD (c .before .loop .out) (c .before .loop .i) (pos 0))) ≡ getD (c .before .before .args .out .now) (c .before .loop .i) (pos 0)
+same : (c : tie.In-loop Inv-loop μ-loop) → toZ w64 (ofZ w64 (getD (c .before .loop .out) (c .before .loop .i) (pos 0))) ≡ getD (c .before .before .before .args .out .now) (c .before .loop .i) (pos 0)
 same c =
-    let a = c .before .before .args in
+    let a = c .before .before .before .args in
     let o = a .out .now in
     let l = c .before .loop in
     let w : getD (l .out) (l .i) (pos 0) ≡ getD o (l .i) (pos 0) = ap (λ x. getD x (l .i) (pos 0)) (l .inv .2) ∙ filled-next (l .i) (after (a .last) (a .owner) (a .remainders .now) o) o (pos 0) (omega arith) in
-    rw w (reads (c .before .before .pre .1) tt (l .i))
+    rw w (reads (c .before .before .before .pre .1) tt (l .i))
 
 mul-with-yen : tie.Need-mul-with-yen Inv-loop μ-loop
 mul-with-yen c = search needs
@@ -48,17 +48,17 @@ slice-copy-out-with-yen c = omega arith
 mul-comes-before : tie.Need-mul-comes-before Inv-loop μ-loop
 mul-comes-before c = search needs
 
-element-copy-out-comes-before : tie.Need-element-copy-out-comes-before Inv-loop μ-loop
-element-copy-out-comes-before c = omega (arith, c .before .before .before .pre .0)
+shared-slice-read-comes-before : tie.Need-shared-slice-read-comes-before Inv-loop μ-loop
+shared-slice-read-comes-before c = omega (arith, c .before .before .before .before .before .pre .0)
 
 comes-before-requires : tie.Need-comes-before-requires Inv-loop μ-loop
 comes-before-requires c κs = search needs
 
 with-yen-requires : tie.Need-with-yen-requires Inv-loop μ-loop
-with-yen-requires c κs = let d = c .before .before .before in rw (same d) (d .before .before .pre .1 .at (d .before .loop .i))
+with-yen-requires c κs = let d = c .before .before .before in rw (same d) (d .before .before .before .pre .1 .at (d .before .loop .i))
 
-mul-t16 : tie.Need-mul-t16 Inv-loop μ-loop
-mul-t16 c = search needs
+mul-t15 : tie.Need-mul-t15 Inv-loop μ-loop
+mul-t15 c = search needs
 
 slice-set-from-out : tie.Need-slice-set-from-out Inv-loop μ-loop
 slice-set-from-out c = omega arith
@@ -72,7 +72,7 @@ loop-less c = omega arith
 loop-again : tie.Need-loop-again Inv-loop μ-loop
 loop-again c =
     let d = c .before .before .before .before in
-    let a = d .before .before .args in
+    let a = d .before .before .before .args in
     let l = d .before .loop in
     let o = a .out .now in
     let f = after (a .last) (a .owner) (a .remainders .now) o in
@@ -85,7 +85,7 @@ same-length c = omega arith
 
 returns : tie.Need-returns Inv-loop μ-loop
 returns c =
-    let a = c .before .before .args in
+    let a = c .before .before .before .args in
     let o = a .out .now in
     let l = c .before .loop in
     let n : l .i ≡ length o = omega arith in
@@ -101,10 +101,10 @@ hand-out-spec =
     mul-with-yen
     slice-copy-out-with-yen
     mul-comes-before
-    element-copy-out-comes-before
+    shared-slice-read-comes-before
     comes-before-requires
     with-yen-requires
-    mul-t16
+    mul-t15
     slice-set-from-out
     add-i
     loop-less

@@ -9,20 +9,20 @@ use Rattle.portions.proofs.narrow.Tie as tie
 mul-own : tie.Need-mul-own
 mul-own c = search needs
 
-element-copy-out-own : tie.Need-element-copy-out-own
-element-copy-out-own c = search needs
+shared-slice-read-own : tie.Need-shared-slice-read-own
+shared-slice-read-own c = search needs
 
 comes-before-requires : tie.Need-comes-before-requires
 comes-before-requires c κs = search needs
 
 returns : tie.Need-returns
-returns c = let s = c .before .before .before in early (s .pre .1 .0) (s .pre .1 .1) (fails (c .before .comes-before .ensures) (c .if1 .taken))
+returns c = let s = c .before .before .before .before in early (s .pre .1 .0) (s .pre .1 .1 .1) (fails (c .before .comes-before .ensures) (c .if1 .taken))
 
 comes-before-requires-2 : tie.Need-comes-before-requires-2
 comes-before-requires-2 c κs = search needs
 
 returns-2 : tie.Need-returns-2
-returns-2 c = let s = c .before .before .before .before .before in late (s .pre .1 .0) (s .pre .1 .1) (fails (c .before .comes-before2 .ensures) (c .if2 .taken))
+returns-2 c = let s = c .before .before .before .before .before .before in late (s .pre .1 .0) (s .pre .1 .1 .1) (fails (c .before .comes-before2 .ensures) (c .if2 .taken))
 
 place-of-requires : tie.Need-place-of-requires
 place-of-requires c κs = search needs
@@ -30,22 +30,22 @@ place-of-requires c κs = search needs
 returns-3 : tie.Need-returns-3
 returns-3 c =
     let f = c .before .before .before .before in
-    let s = f .before .before .before in
+    let s = f .before .before .before .before in
     let p = c .before .place-of .ensures in
-    owns (s .pre .1 .0) (s .pre .1 .1) (holds (f .before .comes-before .ensures) (f .if1 .left)) (rw p at (c .if3 .taken))
+    owns (s .pre .1 .0) (s .pre .1 .1 .1) (holds (f .before .comes-before .ensures) (f .if1 .left)) (rw p at (c .if3 .taken))
 
 returns-4 : tie.Need-returns-4
 returns-4 c =
-    let s = c .before .before .before .before .before .before .before in
+    let s = c .before .before .before .before .before .before .before .before in
     let p = c .before .place-of .ensures in
-    lacks (s .pre .1 .0) (s .pre .1 .1) (rw p at (c .if3 .left))
+    lacks (s .pre .1 .0) (s .pre .1 .1 .1) (rw p at (c .if3 .left))
 
 pub narrow-spec : {M : Type 1} → statement M
 narrow-spec =
     tie.close
     (tie.spec
     mul-own
-    element-copy-out-own
+    shared-slice-read-own
     comes-before-requires
     returns
     comes-before-requires-2

@@ -12,25 +12,25 @@ use Rattle.portions.proofs.place_of.Statement.{statement}
 use Rattle.portions.proofs.place_of.Tie as tie
 
 abbrev Inv-loop : tie.InvT-loop
-Inv-loop rest n i own ahead₀ j₀ ahead j = (j ≤ n) × (own ≡ at rest i) × (ahead ≤ j) × (ahead ≡ count j (λ k. before (at rest) k i))
+Inv-loop remainders n i own ahead₀ j₀ ahead j = (j ≤ n) × (own ≡ at remainders i) × (ahead ≤ j) × (ahead ≡ count j (λ k. before (at remainders) k i))
 
 abbrev μ-loop : tie.MeasureT-loop
-μ-loop rest n i own ahead₀ j₀ ahead j = n - j
+μ-loop remainders n i own ahead₀ j₀ ahead j = n - j
 
 mul-own : tie.Need-mul-own Inv-loop μ-loop
 mul-own c = search needs
 
-element-copy-out-own : tie.Need-element-copy-out-own Inv-loop μ-loop
-element-copy-out-own c = omega arith
+shared-slice-read-own : tie.Need-shared-slice-read-own Inv-loop μ-loop
+shared-slice-read-own c = omega arith
 
 loop-holds : tie.Need-loop-holds Inv-loop μ-loop
-loop-holds c = let a = c .before .args in (zero-le, refl, zero-le, refl)
+loop-holds c = let a = c .before .before .args in (zero-le, refl, zero-le, refl)
 
 mul-comes-before : tie.Need-mul-comes-before Inv-loop μ-loop
 mul-comes-before c = search needs
 
-element-copy-out-comes-before : tie.Need-element-copy-out-comes-before Inv-loop μ-loop
-element-copy-out-comes-before c = omega arith
+shared-slice-read-comes-before : tie.Need-shared-slice-read-comes-before Inv-loop μ-loop
+shared-slice-read-comes-before c = omega arith
 
 comes-before-requires : tie.Need-comes-before-requires Inv-loop μ-loop
 comes-before-requires c κs = search needs
@@ -40,7 +40,7 @@ cast-ahead c = tt
 
 -- what the turn counts
 counted : (c : tie.After-comes-before Inv-loop μ-loop) →
-    let a = c .before .before .before .before .before .args in
+    let a = c .before .before .before .before .before .before .args in
     boolByte (c .comes-before .result) ≡ one-if (before (at (a .remainders .now)) (c .before .before .before .loop .j) (a .i))
 unfolding before
 counted c = rw (← c .comes-before .ensures) (is-one-if (c .comes-before .result))
@@ -51,7 +51,7 @@ counted c = rw (← c .comes-before .ensures) (is-one-if (c .comes-before .resul
 
 add-ahead : tie.Need-add-ahead Inv-loop μ-loop
 add-ahead c =
-    let a = c .before .before .before .before .before .args in
+    let a = c .before .before .before .before .before .before .args in
     omega (arith, counted c, one-if-most (before (at (a .remainders .now)) (c .before .before .before .loop .j) (a .i)))
 
 add-j : tie.Need-add-j Inv-loop μ-loop
@@ -62,7 +62,7 @@ loop-less c = omega arith
 
 loop-again : tie.Need-loop-again Inv-loop μ-loop
 loop-again c =
-    let a = c .before .before .before .before .before .args in
+    let a = c .before .before .before .before .before .before .args in
     let l = c .before .before .before .loop in
     let e = counted c in
     (omega arith, refl, omega (arith, e, one-if-most (before (at (a .remainders .now)) (l .j) (a .i))), total-step (l .j) (λ k. one-if (before (at (a .remainders .now)) k (a .i))) (l .ahead) _ (l .inv .3) e)
@@ -71,7 +71,7 @@ returns : tie.Need-returns Inv-loop μ-loop
 unfolding place
 returns c =
     let l = c .before .loop in
-    let n : l .j ≡ c .before .before .before .args .n = omega arith in
+    let n : l .j ≡ c .before .before .before .before .args .n = omega arith in
     rw n at (l .inv .3)
 
 pub place-of-spec : {M : Type 1} → statement M
@@ -81,10 +81,10 @@ place-of-spec =
     Inv-loop
     μ-loop
     mul-own
-    element-copy-out-own
+    shared-slice-read-own
     loop-holds
     mul-comes-before
-    element-copy-out-comes-before
+    shared-slice-read-comes-before
     comes-before-requires
     cast-ahead
     add-ahead

@@ -1,54 +1,20 @@
--- `share` meets its contract: the floors, with a yen for each member whom the cut does not come before, are the shares. Assumes nothing.
-use mathlib.Core.Path.{_≡_, refl, sym, ap, _∙_}
-use mathlib.Core.Bool.{not}
-use mathlib.Core.List.{List}
-use Prim.Native.Nat.{ℕ, _≤_, _<_}
+-- `share` meets its contract: where there is nothing to share, or nobody to share it, each share is 0. Assumes nothing.
+use mathlib.Core.Path.{_≡_, sym, ap, _∙_}
+use Prim.Native.Nat.{ℕ}
 use native.Mathlib.Omega.{arith}
 use borrow.Author.Needs.{needs}
-use lib.IntN.{ℤ, pos, _+ℤ_, natAbs}
-use lib.ListN.{length, getD}
-use Rattle.whole.specs.Below.{total, one-if, listed}
-use Rattle.whole.specs.Listed.{each-of, length-listed, getD-listed, listed-same, filled, getD-filled}
-use Rattle.whole.specs.Reps.{Each}
-use Rattle.portions.specs.Share.{at, comes, floorOf, remainderOf, left, shareOf}
-use Rattle.portions.specs.Bounds.{most-amount}
-use Rattle.portions.specs.Order.{place-same}
-use Rattle.portions.specs.Cut.{Cuts}
-use Rattle.portions.specs.ShareLaws.{floor-most, rem-lt, share-is, share-none, share-nothing}
+use lib.IntN.{pos}
+use lib.ListN.{length}
+use Rattle.whole.specs.Below.{listed}
+use Rattle.whole.specs.Listed.{listed-same}
+use Rattle.portions.specs.Share.{at, shareOf}
+use Rattle.portions.specs.ShareLaws.{share-none, share-nothing}
 use Rattle.portions.proofs.share.Statement.{statement}
 use Rattle.portions.proofs.share.Tie as tie
 
 -- zeros are the shares where each share is 0
 zeros : (n : ℕ) (w : ℕ → ℕ) (amount : ℕ) → ((i : ℕ) → shareOf n w amount i ≡ 0) → listed n (λ i. pos 0) ≡ listed n (λ i. pos (shareOf n w amount i))
 zeros n w amount h = listed-same n (λ i. pos 0) (λ i. pos (shareOf n w amount i)) (λ i b. ap pos (sym (h i)))
-
-module _ (n : ℕ) (w : ℕ → ℕ) (amount : ℕ) (some : 0 < total n w) where
-  abbrev floors : List ℤ
-  floors = listed n (λ i. pos (floorOf n w amount i))
-
-  -- every word of the list of floors is within the largest amount
-  within : amount ≤ most-amount → Each most-amount floors
-  within h = each-of most-amount floors (λ k b. word k (rw (length-listed n (λ i. pos (floorOf n w amount i))) at b))
-    where
-      word : (k : ℕ) → k < n → natAbs (getD floors k (pos 0)) ≤ most-amount
-      word k b = rw (getD-listed n (λ i. pos (floorOf n w amount i)) (pos 0) k b) (omega (arith, floor-most n w amount some k b))
-
-  module _ (before after : List ℕ) (r : after ≡ filled n (remainderOf n w amount) before) where
-    remainder : (i : ℕ) → i < n → at after i ≡ remainderOf n w amount i
-    remainder i b = rw r (getD-filled n (remainderOf n w amount) before 0 i b)
-
-    below-sum : (i : ℕ) → i < n → at after i < total n w
-    below-sum i b = rw (remainder i b) (rem-lt n w amount some i)
-
-    -- with the yen that are left the floors are the shares
-    shared : (yen x j : ℕ) → yen ≡ left n w amount → Cuts n (at after) yen x j → (one two : List ℤ) → one ≡ floors →
-        two ≡ listed (length one) (λ i. getD one i (pos 0) +ℤ pos (one-if (not (comes x j (at after i) i)))) →
-        two ≡ listed n (λ i. pos (shareOf n w amount i))
-    shared yen x j y c one two f h = h ∙ rw (f, length-listed n (λ i. pos (floorOf n w amount i))) (listed-same n _ _ word)
-      where
-        word : (i : ℕ) → i < n → getD floors i (pos 0) +ℤ pos (one-if (not (comes x j (at after i) i))) ≡ pos (shareOf n w amount i)
-        word i b =
-            rw (getD-listed n (λ k. pos (floorOf n w amount k)) (pos 0) i b, ← c .parts i b, place-same n (at after) (remainderOf n w amount) remainder i b, y, share-is n w amount some i) refl
 
 clear-requires : tie.Need-clear-requires
 clear-requires c κs = search needs
@@ -75,39 +41,29 @@ returns-2 c =
     let ws = s .args .weights .now in
     c .before .clear2 .ensures ∙ rw (s .pre .1 .1 .0) (zeros (length ws) (at ws) (s .args .amount) (share-none (length ws) (at ws) (s .args .amount) (sym (s .pre .1 .1 .1) ∙ d .if2 .taken)))
 
-floors-requires : tie.Need-floors-requires
-floors-requires c κs = search needs
+slice-aggregate-share-with : tie.Need-slice-aggregate-share-with
+slice-aggregate-share-with c = search needs
 
--- somebody has a weight
-some-weight : (c : tie.After-floors) → let ws = c .before .before .before .before .before .before .args .weights .now in 0 < total (length ws) (at ws)
-some-weight c = let d = c .before .before .before in let l = d .if2 .left in omega arith
-
-cut-of-requires : tie.Need-cut-of-requires
-cut-of-requires c κs =
-    let d = c .before .before in
-    let s = d .before .before .before .before .before .before in
-    let ws = s .args .weights .now in
-    (s .pre .0 .few, rw (s .pre .1 .1 .1) (below-sum (length ws) (at ws) (s .args .amount) (some-weight d) _ _ (d .floors .ensures .1 .0)))
-
-hand-out-requires : tie.Need-hand-out-requires
-hand-out-requires c κs =
-    let d = c .before .before .before .before .before in
-    let s = d .before .before .before .before .before .before in
-    let ws = s .args .weights .now in
-    let f = d .floors .ensures .1 .1 in
-    (omega (arith, s .pre .0 .few, ap length f ∙ length-listed (length ws) (λ i. pos (floorOf (length ws) (at ws) (s .args .amount) i))), rw f (within (length ws) (at ws) (s .args .amount) (some-weight d) (s .pre .1 .0)))
+share-with-requires : tie.Need-share-with-requires
+share-with-requires c κs = let s = c .before .before .before .before .before .before .pre in (s .0, (s .1 .0, (s .1 .1 .0, (s .1 .1 .1, omega arith))))
 
 same-length-3 : tie.Need-same-length-3
 same-length-3 c = search needs
 
 returns-3 : tie.Need-returns-3
-returns-3 c =
-    let k = c .before .before .before .before in
-    let d = k .before .before .before in
-    let s = d .before .before .before .before .before .before in
-    let ws = s .args .weights .now in
-    let e = d .floors .ensures in
-    shared (length ws) (at ws) (s .args .amount) (some-weight d) _ _ (e .1 .0) _ _ _ (e .0) (k .cut-of .ensures) _ _ (e .1 .1) (c .before .hand-out .ensures)
+returns-3 c = search needs
+
+slice-aggregate-share-with-2 : tie.Need-slice-aggregate-share-with-2
+slice-aggregate-share-with-2 c = search needs
+
+share-with-requires-2 : tie.Need-share-with-requires-2
+share-with-requires-2 c κs = let s = c .before .before .before .before .before .before .pre in (s .0, (s .1 .0, (s .1 .1 .0, (s .1 .1 .1, omega (arith, s .0 .few)))))
+
+same-length-4 : tie.Need-same-length-4
+same-length-4 c = search needs
+
+returns-4 : tie.Need-returns-4
+returns-4 c = search needs
 
 pub share-spec : {M : Type 1} → statement M
 share-spec =
@@ -119,8 +75,11 @@ share-spec =
     clear-requires-2
     same-length-2
     returns-2
-    floors-requires
-    cut-of-requires
-    hand-out-requires
+    slice-aggregate-share-with
+    share-with-requires
     same-length-3
-    returns-3)
+    returns-3
+    slice-aggregate-share-with-2
+    share-with-requires-2
+    same-length-4
+    returns-4)

@@ -45,40 +45,34 @@ fine c =
 up-requires : tie.Need-up-requires
 up-requires c κs = let s = c .before .before in rw (arg (s .fits .loss)) (fine c .loss-low)
 
-array-borrow-prefix-weights : tie.Need-array-borrow-prefix-weights
-array-borrow-prefix-weights c = fine (c .before) .lengths .few
-
-slice-aggregate-both-layers : tie.Need-slice-aggregate-both-layers
-slice-aggregate-both-layers c = sym (length-take-le _ _ (fine (c .before .before) .lengths .few))
-
 -- the loss as an unsigned number
 up-is : (c : tie.After-up) → c .up .result ≡ natAbs (c .before .before .before .args .loss)
 up-is c = let s = c .before .before .before in c .up .ensures ∙ rw (arg (s .fits .loss)) refl
 
-both-layers-requires : tie.Need-both-layers-requires
-both-layers-requires c κs =
-    let f = fine (c .before .before .before .before) in
+shared-requires : tie.Need-shared-requires
+shared-requires c κs =
+    let f = fine (c .before .before .before) in
     let l = f .lengths in (
       record {
         some = l .some;
         few = l .few;
         differences-same = l .differences-same;
         marks-same = l .marks-same;
-        weights-same = length-take-le _ _ (l .few);
+        weights-same = refl;
         first-same = l .first-same;
         second-same = l .second-same;
       },
-      (f .deposits-in, (f .differences-in, omega (arith, up-is (c .before .before .before), f .loss-high))),
+      (f .deposits-in, (f .differences-in, omega (arith, up-is (c .before .before), f .loss-high))),
     )
 
-remains-most : (c : tie.After-both-layers) → c .both-layers .result ≤ most-loss
+remains-most : (c : tie.After-shared) → c .shared .result ≤ most-loss
 remains-most c =
-    let u = c .before .before .before .before in
+    let u = c .before .before .before in
     let a = u .before .before .before .args in
-    omega (arith, c .both-layers .ensures .0, up-is u, fine (u .before) .loss-high, covered (u .up .result) (a .deposits .now) (a .differences .now) (a .marks .now))
+    omega (arith, c .shared .ensures .0, up-is u, fine (u .before) .loss-high, covered (u .up .result) (a .deposits .now) (a .differences .now) (a .marks .now))
 
-cast-t21 : tie.Need-cast-t21
-cast-t21 c = omega (arith, remains-most (c .before .before .before))
+cast-t17 : tie.Need-cast-t17
+cast-t17 c = omega (arith, remains-most (c .before .before))
 
 same-length : tie.Need-same-length
 same-length c = search needs
@@ -89,10 +83,10 @@ same-length-2 c = search needs
 returns-2 : tie.Need-returns-2
 unfolding lossShared
 returns-2 c =
-    let l = c .before .before .before in
-    let u = l .before .before .before .before in
-    let e = l .both-layers .ensures in
-    rw (eq-eqb _ 0 (not-refused (u .before)), toZ-pos w64 (l .both-layers .result) (omega (arith, remains-most l)), e .0, e .1 .0, e .1 .1 .0, up-is u) refl
+    let l = c .before .before in
+    let u = l .before .before .before in
+    let e = l .shared .ensures in
+    rw (eq-eqb _ 0 (not-refused (u .before)), toZ-pos w64 (l .shared .result) (omega (arith, remains-most l)), e .0, e .1 .0, e .1 .1, up-is u) refl
 
 pub share-loss-spec : {M : Type 1} → statement M
 share-loss-spec =
@@ -101,10 +95,8 @@ share-loss-spec =
     refusal-requires
     returns
     up-requires
-    array-borrow-prefix-weights
-    slice-aggregate-both-layers
-    both-layers-requires
-    cast-t21
+    shared-requires
+    cast-t17
     same-length
     same-length-2
     returns-2)
