@@ -1,7 +1,7 @@
 -- The rule of the close, test by test: what it answers where each test fails, and once its search has answered. Assumes nothing.
-use mathlib.Core.Path.{_≡_, refl, sym, ap, _∙_}
+use mathlib.Core.Path.{_≡_, sym, ap, _∙_}
 use mathlib.Core.Bool.{Bool, true, false}
-use mathlib.Core.List.{List, []}
+use mathlib.Core.List.{List}
 use Prim.Native.Nat.{ℕ, _+_, _≤_, _<_}
 use lib.IntN.{ℤ, pos}
 use borrow.Author.Tests.{lt-ltb, le-ltb}
@@ -42,14 +42,6 @@ module _ (x y z : Bool) (o : Act Reply) where
   to-8 : x ≡ true → y ≡ true → z ≡ false → rule ≡ refuse 8
   to-8 h i k = rw (h, i, k)
 
-  -- where the second test fails the act puts nothing, whatever the first
-  to-none : y ≡ false → rule .puts ≡ []
-  to-none i = elim-first x
-    where
-      elim-first : (t : Bool) → unless t (refuse 2) (unless y (refuse 7) (unless z (refuse 8) o)) .puts ≡ []
-      elim-first true = rw i
-      elim-first false = refl
-
   to-close : x ≡ true → y ≡ true → z ≡ true → rule ≡ o
   to-close h i k = rw (h, i, k)
 
@@ -68,10 +60,6 @@ module _ (prices rates8 rates104 lags : List ℤ) (s : Shape) (g : View) where
 
   pub refused-7 : lengthsTest ≡ true → phaseTest ≡ false → closeRule prices rates8 rates104 lags s g ≡ refuse 7
   refused-7 = to-7 lengthsTest phaseTest figuresTest (closing prices rates8 rates104 lags s g)
-
-  -- before the run is done a close changes nothing
-  pub not-yet : phaseTest ≡ false → closeRule prices rates8 rates104 lags s g .puts ≡ []
-  not-yet = to-none lengthsTest phaseTest figuresTest (closing prices rates8 rates104 lags s g)
 
   pub refused-8 : lengthsTest ≡ true → phaseTest ≡ true → figuresTest ≡ false → closeRule prices rates8 rates104 lags s g ≡ refuse 8
   refused-8 = to-8 lengthsTest phaseTest figuresTest (closing prices rates8 rates104 lags s g)

@@ -17,8 +17,15 @@ use Rattle.places.specs.Place.{size, View, Layout, Put, get, puts}
 abbrev pub count : ℕ → ℤ → ℕ
 count b z = cond (between (pos 1) (pos b) z) (natAbs z) 0
 
+-- accounts n 1..64, products p 1..16
+abbrev pub mostAccounts : ℕ
+mostAccounts = 64
+
+abbrev pub mostProducts : ℕ
+mostProducts = 16
+
 abbrev pub shapeOf : List ℤ → Shape
-shapeOf W = record { n = count 64 (getD W 0 (pos 0)); p = count 16 (getD W 1 (pos 0)) }
+shapeOf W = record { n = count mostAccounts (getD W 0 (pos 0)); p = count mostProducts (getD W 1 (pos 0)) }
 
 abbrev pub shapeOk : List ℤ → Shape → Bool
 shapeOk W s = ltb 0 (s .n) && ltb 0 (s .p) && eqb (length W) (size s)

@@ -10,7 +10,7 @@ use lib.Dec.{ltb}
 use borrow.Author.Tests.{lt-ltb, le-ltb, ltb-true, ltb-false}
 use Rattle.whole.specs.Tests.{true-or-false, is-false, clash, below-or-last}
 use Rattle.portions.specs.Share.{comes, before, place}
-use Rattle.portions.specs.Order.{Comes, is-comes, comes-trans, not-before-self, not-after, place-same}
+use Rattle.portions.specs.Order.{Comes, is-comes, comes-trans, not-before-self, not-after}
 
 -- member j with the remainder x parts the owners of the `yen` from the other members
 pub record Cuts (n : ℕ) (r : ℕ → ℕ) (yen x j : ℕ) : Type 0 where
@@ -91,7 +91,3 @@ module _ {n : ℕ} {r : ℕ → ℕ} {yen : ℕ} where
           others = λ m c f. omega (arith, not-after n r i m b f);
           found = λ m c e. ⊎-elim (λ d. s .found m d e) (λ q. absurd (omega (arith, rw q at e))) (below-or-last m i (rw add-one at c));
         }
-
--- the cut says only what the remainders of the n members say
-pub cuts-same : (n : ℕ) (r s : ℕ → ℕ) (yen x j : ℕ) → ((i : ℕ) → i < n → r i ≡ s i) → Cuts n r yen x j → Cuts n s yen x j
-cuts-same n r s yen x j h c = record { parts = λ i b. rw (← place-same n r s h i b, ← h i b) (c .parts i b) }

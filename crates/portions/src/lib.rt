@@ -30,13 +30,7 @@ pub fn sum_of(weights: &[u64]) -> u64
 }
 
 // Writes each member's floor, and his remainder beside it; the yen left.
-fn floors(
-    amount: u64,
-    sum: u64,
-    weights: &[u64],
-    remainders: &mut [u64],
-    out: &mut [i64],
-) -> u64
+fn floors(amount: u64, sum: u64, weights: &[u64], remainders: &mut [u64], out: &mut [i64]) -> u64
     requires { ⌜ Weights (now weights) ⌝ ∗ ⌜ amount ≤ most-amount ⌝ }
     requires { ⌜ sum ≡ S.sumOf (now weights) ⌝ ∗ ⌜ 0 < sum ⌝ ∗ ⌜ length (now out) ≡ length (now weights) ⌝ ∗ ⌜ length (now weights) ≤ length (now remainders) ⌝ }
     ensures { λ r. ⌜ r ≡ S.left (length (now (weights .entry))) (S.at (now (weights .entry))) amount ⌝ }

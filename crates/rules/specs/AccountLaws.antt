@@ -12,7 +12,7 @@ use Rattle.whole.specs.Number.{between, below}
 use Rattle.whole.specs.Whole.{whole, facts, by}
 use Rattle.whole.specs.Tests.{both, InRange, in-range, true-or-false}
 use Rattle.rules.specs.Sizes.{mostGuarantee, mostGross, mostMargin}
-use Rattle.rules.specs.Account.{isBroker, guaranteeLimit, grossOf, accountOk, lgValue, depositOf, requiredOf, nextDayNeed, excessOne, excessTwo, limitOf}
+use Rattle.rules.specs.Account.{isBroker, guaranteeLimit, grossOf, accountOk, lgValue, depositOf, requiredOf, nextDayNeed}
 use Rattle.rules.specs.ProductLaws.{at-least}
 use Rattle.rules.specs.declared.Account.{Account}
 
@@ -85,11 +85,6 @@ pub lg-in : (a : Account) → accountOk a ≡ true → natAbs (lgValue a) ≤ mo
 unfolding lgValue
 lg-in a e = let i = account-facts a e in by (search whole depth 20) (omega facts)
 
--- an LG value is never below 0
-pub lg-low : (a : Account) → accountOk a ≡ true → pos 0 ≤ℤ lgValue a
-unfolding lgValue
-lg-low a e = let i = account-facts a e in by (search whole depth 20) (omega facts)
-
 pub deposit-in : (a : Account) → accountOk a ≡ true → natAbs (depositOf a) ≤ 1001000000000000
 unfolding depositOf
 deposit-in a e = let i = account-facts a e in let l = lg-in a e in by (search whole depth 20) (omega facts)
@@ -103,17 +98,3 @@ unfolding nextDayNeed below
 need-in a e =
     let i = account-facts a e in
     ⊎-elim (λ h. by (search whole depth 20) (omega facts)) (λ h. by (search whole depth 20) (omega facts)) (true-or-false (ltZ (a .due1) (pos 0)))
-
-pub excess-one-in : (a : Account) → accountOk a ≡ true → natAbs (excessOne a) ≤ 2009000000000000
-unfolding excessOne
-excess-one-in a e = let d = deposit-in a e in let r = required-in a e in by (search whole depth 20) (omega facts)
-
-pub excess-two-in : (a : Account) → accountOk a ≡ true → natAbs (excessTwo a) ≤ 2008000000000000
-unfolding excessTwo below
-excess-two-in a e =
-    let i = account-facts a e in
-    ⊎-elim (λ h. by (search whole depth 20) (omega facts)) (λ h. by (search whole depth 20) (omega facts)) (true-or-false (isBroker a))
-
-pub limit-in : (a : Account) → accountOk a ≡ true → natAbs (limitOf a) ≤ mostGross
-unfolding limitOf
-limit-in a e = let i = account-facts a e in let x = excess-one-in a e in let y = excess-two-in a e in by (search whole depth 20) (omega facts)

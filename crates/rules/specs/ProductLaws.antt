@@ -7,8 +7,8 @@ use native.Mathlib.Nat.{mul-le-mul}
 use native.Mathlib.Omega.{arith}
 use lib.IntN.{ℤ, pos, negsuc, negℤ, natAbs, _*ℤ_}
 use lib.Signed.{leZ, _≤ℤ_}
-use Rattle.whole.specs.Number.{is, maxZ}
-use Rattle.whole.specs.Signs.{nn, abs-is, le-true}
+use Rattle.whole.specs.Number.{is, maxZ, nn}
+use Rattle.whole.specs.Signs.{abs-is, le-true}
 use Rattle.whole.specs.Whole.{whole, facts, by}
 use Rattle.whole.specs.Tests.{InRange, abs-sub, true-or-false}
 use Rattle.rules.specs.Sizes.{isYen, mostPrice, mostBook, mostLots, mostRate}

@@ -1,15 +1,9 @@
--- 01, "Units and sizes": every range of the paper that concerns one account, one product or one call, by name. All limits are inclusive.
+-- 01, "Units and sizes": the ranges of an account, a product, a call and the house, by name. All limits are inclusive. (How many accounts and products:
+-- `places/specs/Act`; the ranges of a loss and its members: `shares/specs/Loss`.)
 use mathlib.Core.Bool.{Bool, cond}
 use Prim.Native.Nat.{ℕ, _*_, _^_}
 use lib.IntN.{ℤ, pos}
 use Rattle.whole.specs.Number.{is, between}
-
--- accounts 1..64, products 1..16
-abbrev pub mostAccounts : ℕ
-mostAccounts = 64
-
-abbrev pub mostProducts : ℕ
-mostProducts = 16
 
 -- a product's kind: 0 yen, 1 cross
 abbrev pub isYen : ℤ → Bool

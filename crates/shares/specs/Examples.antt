@@ -15,11 +15,6 @@ pub r11 : shares 10 (5000000 ∷ 7000000 ∷ 9000000 ∷ []) ≡ pos 3 ∷ pos 3
 unfolding listed before place floorOf remainderOf left shareOf
 r11 = refl
 
--- R12: three equal weights, layer 10
-pub r12 : shares 10 (5000000 ∷ 5000000 ∷ 5000000 ∷ []) ≡ pos 4 ∷ pos 3 ∷ pos 3 ∷ []
-unfolding listed before place floorOf remainderOf left shareOf
-r12 = refl
-
 -- and whatever the three equal weights are
 pub r12-any : (w : ℕ) → 0 < w → shares 10 (w ∷ w ∷ w ∷ []) ≡ pos 4 ∷ pos 3 ∷ pos 3 ∷ []
 unfolding listed

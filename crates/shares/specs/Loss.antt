@@ -6,8 +6,7 @@ use Prim.Native.Nat.{ℕ, _-_, min}
 use lib.Dec.{leb, eqb}
 use lib.IntN.{ℤ, pos, negℤ, natAbs}
 use lib.ListN.{length, getD}
-use Rattle.whole.specs.Number.{between, is}
-use Rattle.whole.specs.Signs.{pp, nn}
+use Rattle.whole.specs.Number.{between, is, pp, nn}
 use Rattle.whole.specs.Below.{all, total, listed}
 use Rattle.portions.specs.Share.{shareOf}
 use Rattle.portions.specs.Bounds.{most-members}

@@ -6,8 +6,9 @@ use Prim.Native.Nat.{ℕ, _+_, _≤_, zero-le}
 use native.Mathlib.Omega.{arith}
 use lib.IntN.{ℤ, pos, natAbs}
 use lib.ListN.{length, getD}
+use Rattle.whole.specs.Number.{pp, nn}
 use Rattle.whole.specs.Below.{total}
-use Rattle.whole.specs.Signs.{pp, nn, abs-is}
+use Rattle.whole.specs.Signs.{abs-is}
 use Rattle.whole.specs.Reps.{Each}
 use Rattle.shares.specs.Loss.{survives, weightOf, negativeOf, weight, negative, layer, layerOne, layerTwo, mostTwo, remains}
 

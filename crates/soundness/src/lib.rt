@@ -88,7 +88,10 @@ fn head_ok(words: &[i64], s: Shape) -> bool
     requires { ⌜ Sized s (now words) ⌝ }
     ensures { λ r. ⌜ r ≡ S.headOk s (get byAccount s (now (words .entry))) ⌝ }
 {
-    if !whole::small(places::head_word(words, s, places::HOUSE), rules::sizes::MOST_HOUSE) {
+    if !whole::small(
+        places::head_word(words, s, places::HOUSE),
+        rules::sizes::MOST_HOUSE,
+    ) {
         return false;
     }
     let n = s.n;

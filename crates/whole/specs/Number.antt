@@ -1,6 +1,6 @@
--- The whole numbers of document 01: ranges, the lesser and the greater, and the two ways of rounding. What a reader believes.
+-- The whole numbers of document 01: ranges, the lesser and the greater, the parts above and below 0, and the two ways of rounding. What a reader believes.
 use mathlib.Core.Bool.{Bool, cond, _&&_}
-use Prim.Native.Nat.{ℕ, _+_, _-_, _/_}
+use Prim.Native.Nat.{ℕ, suc, _+_, _-_, _/_}
 use lib.Dec.{leb, ltb}
 use lib.IntN.{ℤ, pos, negsuc, negℤ, natAbs}
 use lib.Signed.{leZ}
@@ -27,6 +27,15 @@ minZ a b = cond (leZ a b) a b
 
 unfoldable pub maxZ : ℤ → ℤ → ℤ
 maxZ a b = cond (leZ a b) b a
+
+-- the part of z above 0, and the part below it: one of the two is 0
+abbrev pub pp : ℤ → ℕ
+pp (pos n) = n
+pp (negsuc n) = 0
+
+abbrev pub nn : ℤ → ℕ
+nn (pos n) = 0
+nn (negsuc n) = suc n
 
 -- how far z is below 0
 unfoldable pub below : ℤ → ℤ

@@ -17,10 +17,6 @@ module _ {X : Type 0} (s : List X) (at : ℕ) where
   pub put-tail : (ys : List X) → putMid at (length s - at) s ys ≡ take at s ++ ys
   put-tail ys = ap (λ (l : List X). take at s ++ l) (ap (λ (l : List X). ys ++ l) (drop-of-length-le (drop at s) {i = length s - at} (omega (arith, length-drop at s))) ∙ append-nil ys)
 
-  -- a store in the part is a store in the whole
-  pub set-tail : (j : ℕ) (v : X) → set s (at + j) v ≡ take at s ++ set (drop at s) j v
-  set-tail j v = sym (take-append-drop at (set s (at + j) v)) ∙ ap₂ _++_ (take-set-le at s (at + j) v (omega arith)) (drop-set-add at s j v)
-
   pub set-tail-two : (i j : ℕ) (v w : X) → set (set s (at + i) v) (at + j) w ≡ take at s ++ set (set (drop at s) i v) j w
   set-tail-two i j v w =
       sym (take-append-drop at (set (set s (at + i) v) (at + j) w))

@@ -4,19 +4,18 @@
 use mathlib.Core.Path.{_≡_, refl, sym, ap, ap₂, _∙_}
 use mathlib.Core.Bool.{Bool, true, false, cond}
 use Prim.Native.Nat.{ℕ, suc, _+_, _*_, _-_, _/_, _%_, _≤_, _<_, _^_, min, max}
-use native.Mathlib.Nat.{zero-div, zero-mod, mul-le-mul, div-add-mod, mod-lt, div-eq-of-lt, add-div-right, div-le-self, not-suc-le-zero}
+use native.Mathlib.Nat.{zero-div, zero-mod, mul-le-mul, div-eq-of-lt, add-div-right, div-le-self}
 use native.Mathlib.Omega.{arith}
 use mathlib.Core.List.{List}
 use lib.ListN.{getD}
 use lib.Dec.{T, ltb, ltb→lt}
 use lib.IntN.{ℤ, pos, negsuc, negℤ, natAbs, _+ℤ_, _-ℤ_, _*ℤ_}
-use lib.Signed.{mag, ltZ, leZ, quotZ, remZ, _≤ℤ_}
+use lib.Signed.{mag, leZ, quotZ, remZ, _≤ℤ_}
 use mir.Syntax.{w64}
 use mir.Val.{Fits, SFits, toZ, ofZ}
 use mir.ValLaws.{toZ-ofZ, toZ-pos}
-use borrow.Author.Tests.{ltb-true}
-use Rattle.whole.specs.Number.{minZ, maxZ, floorDiv}
-use Rattle.whole.specs.Signs.{false-true, pp, nn, abs-is, pn-add, p-neg, n-neg, pn-mul, sfits-pn, pn-inj, le-true, le-false, le-is, word-back, Word, word}
+use Rattle.whole.specs.Number.{minZ, maxZ, floorDiv, pp, nn}
+use Rattle.whole.specs.Signs.{abs-is, pn-add, p-neg, n-neg, pn-mul, sfits-pn, le-true, le-false, word-back, Word, word}
 
 -- ---- a difference p - n that z is, if `need` holds; `known` is what is known of the numbers in it
 pub record Rep (z : ℤ) : Type 1 where
@@ -163,25 +162,10 @@ rep-quot-word a b r f h =
       is = λ g. quot-word-is a b (r .p) (r .n) f h (r .is g);
     }
 
-pub above-bits : (b : ℤ) → pos 1 ≤ℤ b → 0 < ofZ w64 b
-above-bits (pos b) h = omega (arith, le-is (pos 1) (pos b) h)
-above-bits (negsuc b) h = absurd (h .le)
-
 pub via : {a c : ℤ} (b : ℤ) → a ≡ b → b ≡ c → a ≡ c
 via b e f = e ∙ f
 
 -- ---- rounded down
-
--- what `floorDiv` is: the greatest whole number whose product by k is at most z
-pub floor-low : (z : ℤ) (k : ℕ) → 0 < k → pp (floorDiv z k) * k + nn z ≤ pp z + nn (floorDiv z k) * k
-unfolding floorDiv
-floor-low (pos a) k h = omega (arith, div-add-mod a k)
-floor-low (negsuc a) k h = omega (arith, div-add-mod a k, mod-lt a h)
-
-pub floor-high : (z : ℤ) (k : ℕ) → 0 < k → pp z + nn (floorDiv z k) * k < pp (floorDiv z k) * k + k + nn z
-unfolding floorDiv
-floor-high (pos a) k h = omega (arith, div-add-mod a k, mod-lt a h)
-floor-high (negsuc a) k h = omega (arith, div-add-mod a k, mod-lt a h)
 
 floor-p : (z : ℤ) (k : ℕ) → pp (floorDiv z k) ≡ pp z / k
 unfolding floorDiv
@@ -198,23 +182,6 @@ floor-n (negsuc a) k h =
 
 pub floor-is : (z : ℤ) (k p n : ℕ) → 0 < k → pp z + n ≡ nn z + p → pp (floorDiv z k) + ((n - p) + (k - 1)) / k ≡ nn (floorDiv z k) + (p - n) / k
 floor-is z k p n i h = rw (floor-p z k, floor-n z k i, canon-p z p n h, canon-n z p n h) (omega arith)
-
--- what code that rounds toward 0 computes it by
-pub floor-of : (a : ℤ) (k : ℕ) → ltZ a (pos 0) ≡ true → quotZ (a +ℤ pos 1) (pos k) -ℤ pos 1 ≡ floorDiv a k
-unfolding floorDiv
-floor-of (pos a) k e = absurd (not-suc-le-zero (ltb-true a 0 e))
-floor-of (negsuc a) k e =
-    let s = pn-add (negsuc a) (pos 1) in
-    let h : nn (negsuc a +ℤ pos 1) ≡ a = omega (arith, canon-n (negsuc a +ℤ pos 1) 1 (suc a) (omega arith)) in
-    let q : nn (quotZ (negsuc a +ℤ pos 1) (pos k)) ≡ a / k = rw (quot-n (negsuc a +ℤ pos 1) k, h) in
-    let i : pp (negsuc a +ℤ pos 1) ≡ 0 = omega (arith, canon-p (negsuc a +ℤ pos 1) 1 (suc a) (omega arith)) in
-    let o : pp (quotZ (negsuc a +ℤ pos 1) (pos k)) ≡ 0 = rw (quot-p (negsuc a +ℤ pos 1) k, i, zero-div k) in
-    pn-inj _ _ (omega (arith, pn-add (quotZ (negsuc a +ℤ pos 1) (pos k)) (negsuc 0), canon-p (quotZ (negsuc a +ℤ pos 1) (pos k) -ℤ pos 1) 0 (suc (a / k)) (omega (arith, pn-add (quotZ (negsuc a +ℤ pos 1) (pos k)) (negsuc 0)))))
-
-pub floor-of-pos : (a : ℤ) (k : ℕ) → ltZ a (pos 0) ≡ false → quotZ a (pos k) ≡ floorDiv a k
-unfolding floorDiv
-floor-of-pos (pos a) k e = refl
-floor-of-pos (negsuc a) k e = absurd (false-true (sym e))
 
 abbrev pub rep-floor : (a : ℤ) (k : ℕ) → Rep a → Rep (floorDiv a k)
 rep-floor a k r = record { p = (r .p - r .n) / k; n = ((r .n - r .p) + (k - 1)) / k; need = r .need × (0 < k); known = r .known; told = r .told; is = λ h. floor-is a k (r .p) (r .n) (h .1) (r .is (h .0)) }

@@ -10,17 +10,10 @@ use lib.Signed.{mag, ltZ, leZ, _≤ℤ_, _<ℤ_}
 use mir.Syntax.{w64}
 use mir.Val.{SFits, toZ, ofZ}
 use mir.ValLaws.{toZ-ofZ}
+use Rattle.whole.specs.Number.{pp, nn}
 use borrow.Author.Tests.{ltb-true, ltb-false, leb-true, leb-false, lt-ltb, le-ltb, le-leb, lt-leb}
 
 -- ---- the part above 0 and the part below 0
-abbrev pub pp : ℤ → ℕ
-pp (pos n) = n
-pp (negsuc n) = 0
-
-abbrev pub nn : ℤ → ℕ
-nn (pos n) = 0
-nn (negsuc n) = suc n
-
 pub abs-is : (z : ℤ) → natAbs z ≡ pp z + nn z
 abs-is (pos n) = omega arith
 abs-is (negsuc n) = omega arith
@@ -154,11 +147,6 @@ arg {z} h = toZ-ofZ w64 z h
 
 pub came : (r : ℤ) {z : ℤ} → mag r < 2 ^ 63 → r ≡ z → toZ w64 (ofZ w64 r) ≡ z
 came r h e = back r h ∙ e
-
--- the size of a word
-pub abs-word : (z : ℤ) → mag z < 2 ^ 63 → natAbs z ≤ 2 ^ 63
-abs-word (pos n) h = omega arith
-abs-word (negsuc n) h = omega arith
 
 abbrev pub Word : ℤ → Type 0
 Word z = (natAbs z ≡ pp z + nn z) × (pp z < 2 ^ 63) × (nn z ≤ 2 ^ 63) × (natAbs (toZ w64 (ofZ w64 z)) ≡ natAbs z)

@@ -6,7 +6,7 @@ use Prim.Native.Nat.{ℕ, suc, _+_, _≤_, _<_}
 use native.Mathlib.Omega.{arith}
 use lib.Dec.{leb, ltb}
 use lib.IntN.{ℤ, pos, negsuc, natAbs, _+ℤ_, _-ℤ_}
-use borrow.Author.Tests.{lt-ltb, leb-true, le-leb, ltb-true, ltb-false, not-true, not-false}
+use borrow.Author.Tests.{leb-true, le-leb, ltb-true, ltb-false, not-true, not-false}
 use Rattle.whole.specs.Number.{within, between, isBelow}
 use Rattle.whole.specs.Signs.{false-true}
 use Rattle.whole.specs.Reps.{leaf}
@@ -54,9 +54,6 @@ pub record IsBelow (n : ℕ) (z : ℤ) : Type 0 where
 pub is-below : (n : ℕ) (z : ℤ) → isBelow n z ≡ true → IsBelow n z
 is-below n (pos k) e = record { high = ltb-true k n (both (leb 0 k) (ltb k n) e .1); nat = refl }
 is-below n (negsuc k) e = absurd (false-true e)
-
-pub below-is : (n k : ℕ) → k < n → isBelow n (pos k) ≡ true
-below-is n k h = rw (le-leb 0 k (omega arith)) (lt-ltb k n h)
 
 pub within-true : (b : ℕ) (z : ℤ) → within b z ≡ true → natAbs z ≤ b
 within-true b z e = leb-true (natAbs z) b e

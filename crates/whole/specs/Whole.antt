@@ -14,7 +14,8 @@ use mir.Syntax.{w64}
 use mir.Val.{Fits, SFits, toZ, ofZ}
 use mir.ValLaws.{toZ-ofZ}
 use borrow.Author.Tests.{ltb-true, leb-true, leb-false, le-leb, lt-leb, not-true, not-false}
-use Rattle.whole.specs.Signs.{false-true, pp, nn, abs-is, sfits-pn, pn-inj, lt-true, lt-false, le-true, le-false, is-lt, not-lt, is-le, not-le, le-is, lt-is, le-zero, le-pos, le-negsuc, word-back, Word, word}
+use Rattle.whole.specs.Number.{pp, nn}
+use Rattle.whole.specs.Signs.{false-true, abs-is, sfits-pn, pn-inj, lt-true, lt-false, le-true, le-false, is-lt, not-lt, is-le, not-le, le-is, lt-is, le-zero, le-pos, le-negsuc, word-back, Word, word}
 use Rattle.whole.specs.Reps.{Rep, Num, reps}
 
 -- ---- what a test says, found by `search tests`
