@@ -30,7 +30,7 @@ use crate::gen::calls::{self, Call, Kind};
 use crate::gen::ledgers::{self, Flavour};
 use crate::gen::{argument, damage, shares, spoil, texts};
 use crate::ledger::Layout;
-use crate::limits::{AMOUNT, TEXT};
+use crate::limits::{AMOUNT, GROSS, HOUSE, TEXT};
 use crate::margin::{Account, RECORD};
 use crate::rng::Rng;
 
@@ -62,6 +62,10 @@ pub fn write() -> String {
          # The format is told at the top of src/cases.rs.\n",
     );
     for (kind, times, numbers) in KINDS {
+        for lists in paper(kind) {
+            file += &expected(&Plain, kind, &lists);
+            file.push('\n');
+        }
         let mut written = 0;
         let mut missing = numbers.to_vec();
         while written < times || !missing.is_empty() {
@@ -191,6 +195,35 @@ fn call(kind: char, lists: &[Vec<i64>]) -> Call {
             lags: lists[5].clone(),
         },
         _ => panic!("no case of kind {kind} with {:?}", lists[0]),
+    }
+}
+
+/// The paper's own figures that are not among R1 to R12 ("Figures by hand"), as
+/// cases of a kind.
+fn paper(kind: char) -> Vec<Vec<Vec<i64>>> {
+    let words = |house: i64, cash: i64, due: i64| {
+        let mut words = vec![2, 1, 0, house, 0, 0, 1_502_500, 0, 0];
+        words.extend([0, cash, 0, 0, 0, due, 0, 0, 0, 0]);
+        words.extend([1, 0, 0, 0, 0, -due, 0, 0, 0, 0]);
+        words
+    };
+    let million = 1_000_000;
+    match kind {
+        // Gross comes to 10^15, and to one yen more.
+        'D' => {
+            [0, 1].map(|more| vec![vec![0, AMOUNT], words(0, GROSS - AMOUNT + more, 0)]).to_vec()
+        }
+        'W' => vec![vec![vec![0, 0], words(0, million, 0)]],
+        'B' => vec![vec![vec![], words(HOUSE, 0, -1)]],
+        'H' => vec![vec![
+            vec![12 * million],
+            vec![5 * million; 3],
+            vec![900_000, -100_000, -2_500_000],
+            vec![0, 0, 1],
+            vec![7; 3],
+            vec![-7; 3],
+        ]],
+        _ => vec![],
     }
 }
 

@@ -13,6 +13,14 @@ fn the_file_is_small_and_comes_out_again() {
     assert!((300..1_000).contains(&done), "{done} cases");
 }
 
+/// The proved code runs the very file that this program writes.
+#[test]
+fn it_is_the_file_of_the_gate() {
+    let path = concat!(env!("CARGO_MANIFEST_DIR"), "/../crates/cases/stdin");
+    let gate = std::fs::read_to_string(path).expect("the cases that the proved code runs");
+    assert!(gate == write(), "`cases > crates/cases/stdin` writes it anew");
+}
+
 #[test]
 fn every_number_is_in_it() {
     let file = write();
@@ -39,6 +47,28 @@ fn every_number_is_in_it() {
         for number in numbers {
             assert!(seen.contains(&(kind, *number)), "{kind} never gives {number}");
         }
+    }
+}
+
+/// "Figures by hand": gross of 10^15 taken and a yen more refused, a withdrawal
+/// of 0, a house that would pass 10^17, and what is left of 12,000,000.
+#[test]
+fn the_papers_figures_are_in_it() {
+    let file = write();
+    for (start, end) in [
+        (
+            "D 2 0 1000000000000 29 2 1 0 0 0 0 1502500 0 0 0 999000000000000 ",
+            " 0 1000000000000000 ",
+        ),
+        ("D 2 0 1000000000000 29 2 1 0 0 0 0 1502500 0 0 0 999000000000001 ", " 10 0 "),
+        ("W 2 0 0 ", " 5 0 "),
+        ("B 0 29 2 1 0 100000000000000000 ", " 13 0 "),
+        ("H 1 12000000 3 5000000 5000000 5000000 ", " 0 1100000 "),
+    ] {
+        let found = |line: &&str| {
+            line.starts_with(start) && line[..line.rfind(' ').unwrap() + 1].ends_with(end)
+        };
+        assert!(file.lines().any(|line| found(&line)), "{start}..{end}");
     }
 }
 

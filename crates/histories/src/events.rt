@@ -272,7 +272,8 @@ fn compared(words: &mut [i64], answers: &[i64], seed: u64, i: u64, which: u64, t
     unlike(answers, i, done(words, event))
 }
 
-// The events of one stretch, in their order: how many words of their answers differ from those of the mixture.
+// The events of one stretch, in their order: how many words of their answers differ from those of the mixture. There are at most 4 of each of 32 events:
+// the remainder by 1,024 takes nothing away.
 pub fn stretch(words: &mut [i64], answers: &[i64], seed: u64, which: u64) -> u64 {
     let mut count: u64 = 0;
     let mut turn: u64 = 1;

@@ -19,7 +19,8 @@ fn show(name: &[u8], count: u64) {
     text(b"\n");
 }
 
-// The differences between a history as it came and in three stretches.
+// In how many respects a history as it came and in three stretches differs, 0 to 6: the start's soundness, the answers of each stretch and of the
+// attempts, the words at the end.
 fn differences(seed: u64) -> u64 {
     let mut words = [0i64; 75];
     start::write(&mut words, seed);
@@ -31,7 +32,13 @@ fn differences(seed: u64) -> u64 {
     let run = events::stretch(&mut again, &answers, seed, events::RUN);
     let late = events::stretch(&mut again, &answers, seed, events::LATE);
     let idle = events::attempts(&answers, seed);
-    bad % 64 + early % 64 + run % 64 + late % 64 + idle % 64 + tally::altered(&words, &again) % 128
+    let moved = tally::altered(&words, &again);
+    tally::some(bad)
+        + tally::some(early)
+        + tally::some(run)
+        + tally::some(late)
+        + tally::some(idle)
+        + tally::some(moved)
 }
 
 fn total(which: u64) -> u64 {

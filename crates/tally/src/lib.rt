@@ -20,3 +20,10 @@ pub fn altered(a: &[i64], b: &[i64]) -> u64 {
     }
     count
 }
+
+// 1 where a count is not 0: a sum of a few of these neither wraps nor comes out 0 where a count was not.
+pub fn some(count: u64) -> u64
+    ensures { λ r. ⌜ r ≤ 1 ⌝ }
+{
+    if count != 0 { 1 } else { 0 }
+}
