@@ -2,7 +2,7 @@
  *
  * A ledger is a list of signed 64-bit words that the caller lends (`words`, `count`), laid out as document 01, "The ledger's words", says. Every
  * function takes any words and any figures. It answers the paper's number (0: done) and figure; a refusal (any other number) leaves everything that
- * was lent as it was. Nothing is kept between calls and nothing is allocated. */
+ * was lent as it was (fx_question alone writes: its three figures are then 0). Nothing is kept between calls and nothing is allocated. */
 #ifndef HEIDBUMMEN_H
 #define HEIDBUMMEN_H
 

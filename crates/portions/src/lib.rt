@@ -13,7 +13,7 @@ ghost use Rattle.portions.specs.Bounds.{Weights, most-amount, most-membe
 use crate::divide::part_of;
 use crate::divide::ratio_of;
 
-pub mod divide;
+mod divide;
 
 // The sum of the weights.
 pub fn sum_of(weights: &[u64]) -> u64
@@ -51,7 +51,7 @@ fn floors(amount: u64, sum: u64, weights: &[u64], remainders: &mut [u64], out: &
 }
 
 // Whether member j, with the remainder x, comes before member i, with the remainder y: the larger remainder first, the lower account on a tie.
-pub fn comes_before(x: u64, j: usize, y: u64, i: usize) -> bool
+fn comes_before(x: u64, j: usize, y: u64, i: usize) -> bool
     ensures { λ r. ⌜ r ≡ S.comes x j y i ⌝ }
 {
     if x == y { j < i } else { y < x }

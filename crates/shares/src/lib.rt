@@ -6,8 +6,8 @@ use crate::refusals::refusal;
 use rules::Reply;
 use whole::up;
 
-pub mod layers;
-pub mod refusals;
+mod layers;
+mod refusals;
 
 // The call: what remains of the loss, with the shares of layer one in `first` and those of layer two in `second`; or a refusal, with nothing
 // written.
