@@ -1,4 +1,5 @@
 -- The ledger's words (01, "The ledger's words"): n, p, phase, house; p products of 5 words; n accounts of 8 words and 2 for each product.
+-- That these places are those of the ledger's layout is proved in `calls/specs/LedgerLaws` (`size-is`, `product-place`, `account-place`, `position-place`).
 use mathlib.Core.List.{List}
 use Prim.Native.Nat.{ℕ, _+_, _*_}
 use lib.IntN.{ℤ, pos}

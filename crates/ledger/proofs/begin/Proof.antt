@@ -1,29 +1,15 @@
 -- `begin` meets its contract: the gate, then the rule on a ledger that is sound. Assumes nothing.
-use mathlib.Core.Path.{_≡_, refl, sym, _∙_}
-use mathlib.Core.Bool.{true}
-use mathlib.Core.List.{List}
-use native.Mathlib.Omega.{arith}
-use lib.IntN.{ℤ}
-use Rattle.whole.specs.Tests.{fails, holds}
-use Rattle.rules.specs.declared.Reply.{Reply}
+use mathlib.Core.Path.{refl}
 use Rattle.places.specs.ByAccount.{byAccount}
-use Rattle.places.specs.Act.{Rule}
-use Rattle.places.specs.ActLaws.{ledger-of, ledger-at, performed-at, turned-down}
-use Rattle.soundness.specs.Sound.{sound, placesOk}
-use Rattle.soundness.specs.Perform.{refuse}
-use Rattle.acts.specs.Run.{beginRule}
+use Rattle.soundness.specs.SoundLaws.{Ledger}
+use Rattle.soundness.specs.PerformLaws.{gate-shut, gate-two, gate-ledger, gate-open}
 use borrow.Author.Needs.{needs}
 use Rattle.ledger.proofs.begin.Statement.{statement}
 use Rattle.ledger.proofs.begin.Tie as tie
 
-abbrev W : tie.Start → List ℤ
-W s = s .args .words .now
-
-abbrev rule : tie.Start → Rule Reply
-rule s = beginRule
-
-is-sound : (c : tie.Else1) → sound byAccount (W (c .before .before .before)) ≡ true
-is-sound c = holds (c .before .sound .ensures) (c .if1 .left)
+-- the words are a ledger of the shape that was read
+ledger : (c : tie.After-shape-of) → Ledger byAccount (c .shape-of .result) (c .before .before .before .before .before .args .words .now)
+ledger c = let d = c .before .before in gate-ledger _ (d .before .sound .ensures) (d .if1 .left) (c .shape-of .ensures)
 
 sound-requires : tie.Need-sound-requires
 sound-requires c κs = search needs
@@ -35,23 +21,19 @@ same-length : tie.Need-same-length
 same-length c = search needs
 
 returns : tie.Need-returns
-returns c =
-    let s = c .before .before .before .before in
-    turned-down placesOk byAccount (W s) (c .refused .result) (refuse 1) (rule s) refl (c .refused .ensures) (fails (c .before .before .sound .ensures) (c .before .if1 .taken))
+returns c = gate-shut _ (c .before .before .sound .ensures) _ _ (c .before .if1 .taken) refl (c .refused .ensures)
 
 shape-of-requires : tie.Need-shape-of-requires
-shape-of-requires c κs = let l = ledger-of placesOk byAccount (W (c .before .before .before .before)) (is-sound (c .before)) in let z = l .sized .sized in omega arith
+shape-of-requires c κs = gate-two _ (c .before .before .sound .ensures) (c .before .if1 .left)
 
 begin-in-requires : tie.Need-begin-in-requires
-begin-in-requires c κs = ledger-at placesOk byAccount (W (c .before .before .before .before .before .before)) (c .before .shape-of .result) (is-sound (c .before .before .before)) (c .before .shape-of .ensures)
+begin-in-requires c κs = ledger (c .before)
 
 same-length-2 : tie.Need-same-length-2
 same-length-2 c = search needs
 
 returns-2 : tie.Need-returns-2
-returns-2 c =
-    let s = c .before .before .before .before .before .before .before .before in let h = c .before .before .before .shape-of in
-    c .before .begin-in .ensures ∙ sym (performed-at placesOk byAccount (W s) (refuse 1) (rule s) (h .result) (ledger-at placesOk byAccount (W s) (h .result) (is-sound (c .before .before .before .before .before)) (h .ensures)))
+returns-2 c = gate-open _ _ _ _ _ refl (ledger (c .before .before .before)) (c .before .begin-in .ensures)
 
 pub begin-spec : {M : Type 1} → statement M
 begin-spec =
