@@ -1,8 +1,8 @@
 -- Soundness as facts, both ways: from the test to the facts, and from the facts to the test; and what keeps it. Assumes nothing.
-use mathlib.Core.Path.{_≡_, refl, sym, ap, _∙_}
+use mathlib.Core.Path.{_≡_, sym, ap, _∙_}
 use mathlib.Core.Logic.{_≢_}
 use mathlib.Core.List.{List}
-use mathlib.Core.Bool.{Bool, true, false, _&&_, _||_}
+use mathlib.Core.Bool.{true, _&&_}
 use borrow.Author.Tests.{ne-eqb, eqb-false}
 use Prim.Native.Nat.{ℕ, suc, _+_, _-_, _<_, _≤_}
 use native.Mathlib.Omega.{arith}
@@ -11,7 +11,8 @@ use lib.Dec.{eqb}
 use lib.IntN.{ℤ, pos, natAbs, _-ℤ_}
 use Rattle.whole.specs.Number.{within, between, is}
 use Rattle.whole.specs.Below.{all, sum}
-use Rattle.whole.specs.Tests.{both, clash, within-true}
+use Rattle.whole.specs.Tests.{both, within-true}
+use Rattle.whole.specs.Whole.{or-yes, or-holds}
 use Rattle.whole.specs.BelowLaws.{all-at, all-is}
 use Rattle.rules.specs.Sizes.{mostHouse, mostGross}
 use Rattle.rules.specs.Account.{accountOk}
@@ -56,14 +57,6 @@ pub record Facts (s : Shape) (g : View) : Type 0 where
   pub done : (a : ℕ) → a < turn g - 1 → is 0 (g (due a 0)) ≡ true
   pub to-come : turn g ≢ 0 → stays (s .n + 1 - turn g) (g house) (turn g - 1) g ≡ true
 
-or-true : (t b : Bool) → (t || b) ≡ true → t ≡ false → b ≡ true
-or-true true b e h = clash refl h
-or-true false b e h = e
-
-true-or : (t b : Bool) → (t ≡ false → b ≡ true) → (t || b) ≡ true
-true-or true b h = refl
-true-or false b h = h refl
-
 pub facts : (s : Shape) (g : View) → placesOk s g ≡ true → Facts s g
 facts s g e =
     let h = headOk s g in let p = all (s .p) (productOk g) in let a = all (s .n) (λ a. accountOk (accountAt g a)) in
@@ -84,7 +77,7 @@ facts s g e =
       held = λ b j k l. all-at (s .n) (heldOk g j) (position j l .0) b k;
       balanced = λ j l. position j l .1;
       done = all-at (turn g - 1) (λ a. is 0 (g (due a 0))) (e₂ .0);
-      to-come = λ ne. or-true (eqb (turn g) 0) (stays (s .n + 1 - turn g) (g house) (turn g - 1) g) (e₂ .1) (ne-eqb (turn g) 0 ne);
+      to-come = λ ne. or-yes (eqb (turn g) 0) (stays (s .n + 1 - turn g) (g house) (turn g - 1) g) (e₂ .1) (ne-eqb (turn g) 0 ne);
     }
 
 -- the facts that `figuresOk` alone gives, before the last two clauses are tested
@@ -117,7 +110,7 @@ from-facts s g f =
       all-is (s .p) (positionsOk (s .n) g) (λ j l. rw (all-is (s .n) (heldOk g j) (λ a k. f .held a j k l)) (f .balanced j l)),
       all-is (turn g - 1) (λ a. is 0 (g (due a 0))) (f .done),
     )
-    (true-or (eqb (turn g) 0) (stays (s .n + 1 - turn g) (g house) (turn g - 1) g) (λ ne. f .to-come (eqb-false (turn g) 0 ne)))
+    (or-holds (eqb (turn g) 0) (stays (s .n + 1 - turn g) (g house) (turn g - 1) g) (λ ne. f .to-come (eqb-false (turn g) 0 ne)))
 
 pub sound-facts : (L : Layout) (W : List ℤ) → sound L W ≡ true → Facts (shapeOf W) (get L (shapeOf W) W)
 sound-facts L W e = facts (shapeOf W) (get L (shapeOf W) W) (places-ok placesOk L W e)
