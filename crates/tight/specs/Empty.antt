@@ -1,15 +1,20 @@
 -- 01, "How tight a contract has to be", its four empty programs: refuse everything, one constant reply, leave the ledger alone, move all dues at the
 -- first step and idle after. No function that meets a call's contract is one of them. Assumes nothing.
 use mathlib.Core.Path.{_≡_, refl, sym, ap, _∙_}
-use mathlib.Core.List.{List, []}
+use mathlib.Core.List.{List, [], _++_}
 use mathlib.Core.Bool.{false}
-use Prim.Native.Nat.{ℕ}
+use Prim.Native.Nat.{ℕ, _≤_}
 use native.Mathlib.Omega.{arith}
-use borrow.Author.Tests.{eq-eqb}
+use borrow.Author.Tests.{eq-eqb, le-ltb}
 use lib.Dec.{eqb}
 use lib.IntN.{ℤ, pos, negsuc, natAbs}
-use lib.ListN.{getD}
+use lib.ListN.{length, getD, drop}
+use Rattle.whole.specs.Number.{minZ, maxZ, below, floorDiv}
 use Rattle.whole.specs.Tests.{clash}
+use Rattle.rules.specs.declared.Account.{Account}
+use Rattle.rules.specs.declared.Taken.{Taken}
+use Rattle.rules.specs.Account.{accountOk, lgValue, depositOf, requiredOf, excessOne, excessTwo, limitOf}
+use Rattle.rules.specs.Calls.{replyOf, deposited, withdrawn, tellerDeposit, tellerWithdrawal}
 use Rattle.rules.specs.declared.Reply.{Reply}
 use Rattle.rules.specs.declared.Standing.{Standing}
 use Rattle.places.specs.ByAccount.{byAccount}
@@ -20,8 +25,12 @@ use Rattle.acts.specs.Trade.{tradeRule}
 use Rattle.acts.specs.Run.{beginRule, stepRule}
 use Rattle.shares.specs.Loss.{lossShared}
 use Rattle.shares.specs.Examples.{deposits, differences, marks, blank, worked, refused}
+use Rattle.lines.specs.Bytes.{bytes}
+use Rattle.day.specs.Sheet.{answerOf, sheetOf}
+use Rattle.calls.specs.Ledger.{theLedger}
 use Rattle.tight.specs.Small.{opening, short}
 use Rattle.tight.specs.Numbers.{Refused, Accepted, closeAt, acceptances}
+use Rattle.tight.specs.PaperSheet.{input, output, the-sheet, no-text}
 
 -- a function from the words at entry to its reply and the words at exit; it meets a call's contract
 abbrev pub Program : Type 0
@@ -124,4 +133,55 @@ module _ (f : ℤ → Reply × List ℤ × List ℤ) (m : (loss : ℤ) → f los
   pub loss-not-idle : ((loss : ℤ) → f loss .1 ≡ blank) → ⊥
   loss-not-idle same =
       let h : _≡_ {A = ℕ} 7 5000000 = sym (ap (λ l. sizeAt l 0) (same (pos 12000000))) ∙ ap (λ p. sizeAt (p .1) 0) (m (pos 12000000) ∙ worked) in
+      absurd (omega arith)
+
+-- ---- the teller's two, on a record: a call that is taken and moves the cash, and a record that is not sound
+abbrev pub Window : Type 0
+Window = Account → Reply × Account
+
+pub record WindowNotEmpty (call : Account → Taken) : Type 0 where
+  pub not-refusing : (f : Window) → ((a : Account) → f a ≡ (replyOf (call a), call a .account)) → ((a : Account) → f a .0 .number ≡ 0 → ⊥) → ⊥
+  pub not-constant : (f : Window) → ((a : Account) → f a ≡ (replyOf (call a), call a .account)) → (r : Reply) → ((a : Account) → f a .0 ≡ r) → ⊥
+  pub not-idle : (f : Window) → ((a : Account) → f a ≡ (replyOf (call a), call a .account)) → ((a : Account) → f a .1 ≡ a) → ⊥
+
+pub window-not-empty : (call : Account → Taken) (good bad : Account) → call good .number ≡ 0 → call bad .number ≡ 1 → eqb (natAbs (call good .account .cash)) (natAbs (good .cash)) ≡ false → WindowNotEmpty call
+window-not-empty call good bad t u d = record {
+  not-refusing = λ f m never. never good (ap (λ p. p .0 .number) (m good) ∙ t);
+  not-constant = λ f m r same.
+      let h : r .number ≡ 0 = sym (ap (λ q. q .number) (same good)) ∙ ap (λ p. p .0 .number) (m good) ∙ t in
+      let k : r .number ≡ 1 = sym (ap (λ q. q .number) (same bad)) ∙ ap (λ p. p .0 .number) (m bad) ∙ u in
+      absurd (omega arith);
+  not-idle = λ f m stays.
+      let e : natAbs (call good .account .cash) ≡ natAbs (good .cash) = sym (ap (λ p. natAbs (p .1 .cash)) (m good)) ∙ ap (λ a. natAbs (a .cash)) (stays good) in
+      clash (eq-eqb _ _ e) d;
+}
+
+-- a broker with 50,000 in cash; a record of no kind
+abbrev record-of : ℤ → Account
+record-of kind = record { kind = kind; cash = pos 50000; guarantee = pos 0; cap = pos 0; margin = pos 0; due0 = pos 0; due1 = pos 0; due2 = pos 0 }
+
+pub teller-deposit : WindowNotEmpty (λ a. tellerDeposit a (pos 10))
+unfolding tellerDeposit deposited accountOk
+teller-deposit = window-not-empty _ (record-of (pos 0)) (record-of (pos 2)) refl refl refl
+
+pub teller-withdrawal : WindowNotEmpty (λ a. tellerWithdrawal a (pos 10))
+unfolding tellerWithdrawal withdrawn accountOk limitOf excessOne excessTwo depositOf lgValue requiredOf minZ maxZ floorDiv below
+teller-withdrawal = window-not-empty _ (record-of (pos 0)) (record-of (pos 2)) refl refl refl
+
+-- ---- the sheet: the paper's text and no text at all, in any list that has room
+module _ (f : List ℕ → List ℕ → ℕ × List ℕ) (m : (text out : List ℕ) → f text out ≡ answerOf (sheetOf theLedger text) out) (out : List ℕ) (fits : 65536 ≤ length out) where
+  written : (text sheet : List ℕ) → sheetOf theLedger text ≡ sheet → f text out ≡ (length sheet, sheet ++ drop (length sheet) out)
+  written text sheet e = m text out ∙ rw (e, le-ltb (length out) 65536 fits) refl
+
+  pub sheet-not-constant : (r : ℕ) → ((text : List ℕ) → f text out .0 ≡ r) → ⊥
+  sheet-not-constant r same =
+      let h : r ≡ 108 = sym (same input) ∙ ap (λ p. p .0) (written input output the-sheet) in
+      let k : r ≡ 6 = sym (same []) ∙ ap (λ p. p .0) (written [] (bytes "BAD 1\n") no-text) in
+      absurd (omega arith)
+
+  -- the first byte is an F, and a B
+  pub sheet-not-idle : ((text : List ℕ) → f text out .1 ≡ out) → ⊥
+  sheet-not-idle stays =
+      let h : getD out 0 0 ≡ 70 = sym (ap (λ l. getD l 0 0) (stays input)) ∙ ap (λ p. getD (p .1) 0 0) (written input output the-sheet) in
+      let k : getD out 0 0 ≡ 66 = sym (ap (λ l. getD l 0 0) (stays [])) ∙ ap (λ p. getD (p .1) 0 0) (written [] (bytes "BAD 1\n") no-text) in
       absurd (omega arith)
