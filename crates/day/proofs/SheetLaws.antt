@@ -16,7 +16,7 @@ use Rattle.lines.specs.Print.{numbersLine, badLine}
 use Rattle.dayfile.proofs.ContentsLaws.{contents-modest}
 use Rattle.lines.proofs.PrintLaws.{line-length}
 use Rattle.dayfile.specs.Calls.{callAt, callsAt, Call}
-use Rattle.dayfile.specs.Day.{Day, bodiesOf, dayOf}
+use Rattle.dayfile.specs.Day.{startOf, Day, bodiesOf, dayOf}
 use Rattle.dayfile.specs.Inside.{Modest, Bodied}
 use Rattle.dayfile.specs.Table.{contentsOf}
 use Rattle.dayfile.specs.Words.{lengthOf}
@@ -123,9 +123,13 @@ day-good : (l : LedgerRules) (d : Day) → (d .at ≡ lost → ⊥) → l .sound
 unfolding daySheet
 day-good l d n e = rw (ne-eqb (d .at) lost n, e)
 
+calls-are : (text : List ℕ) (c : Contents) → bodiesOf text c .calls ≡ callsAt text (c .products) (startOf text c .at) (c .calls)
+unfolding bodiesOf
+calls-are text c = refl
+
 good-by : (l : LedgerRules) (text : List ℕ) (c : Contents) (r : Bodies) (w : List ℤ) → Bodied text c r w → goodSheet l (bodiesOf text c) ≡ bytes "FXSHEET\n" ++ callsPart l (bodiesOf text c .accounts) (bodiesOf text c .products) (callsAt text (c .products) (r .«calls_at») (c .calls)) w
 unfolding goodSheet
-good-by l text c r w b = rw (b .calls-are, b .words-are)
+good-by l text c r w b = rw (calls-are text c, b .calls-at-is, b .words-are) refl
 
 pub good-is : (l : LedgerRules) (text : List ℕ) (c : Contents) (r : Bodies) (w : List ℤ) → Bodied text c r w → (bodiesOf text c .at ≡ lost → ⊥) → l .sound (bodiesOf text c .words) ≡ true → daySheet l (bodiesOf text c) ≡ bytes "FXSHEET\n" ++ callsPart l (c .accounts) (c .products) (callsAt text (c .products) (r .«calls_at») (c .calls)) w
 unfolding bodiesOf

@@ -15,7 +15,6 @@ ghost use Rattle.lines.specs.Print.{numbersLine, badLine};
 ghost use Rattle.dayfile.specs.Calls.{callsAt};
 ghost use Rattle.dayfile.specs.Day.{bodiesOf, dayOf};
 ghost use Rattle.dayfile.specs.Inside.{Modest};
-ghost use Rattle.dayfile.specs.Sections.{noMarks};
 ghost use Rattle.dayfile.specs.Words.{accountWord, lengthOf};
 ghost use Rattle.day.specs.Inside.{Called};
 ghost use Rattle.calls.specs.Ledger.{theLedger};
@@ -127,18 +126,18 @@ fn run_calls(
     count: usize,
     s: Shape,
     words: &mut [i64],
-    figures: &mut [i64],
     out: &mut [u8],
     start: usize,
 ) -> usize
-    requires { ⌜ Ledger byAccount s (now words) ⌝ ∗ ⌜ 64 ≤ length (now figures) ⌝ ∗ ⌜ start + count * 44 + s .n * 176 + 28 ≤ length (now out) ⌝ }
+    requires { ⌜ Ledger byAccount s (now words) ⌝ ∗ ⌜ start + count * 44 + s .n * 176 + 28 ≤ length (now out) ⌝ }
     ensures { λ r. ⌜ (r ≡ start + length (callsPart theLedger (s .n) (s .p) (callsAt (now (text .entry)) (s .p) from count) (now (words .entry)))) × (now (out .exit) ≡ sets (now (out .entry)) start (callsPart theLedger (s .n) (s .p) (callsAt (now (text .entry)) (s .p) from count) (now (words .entry)))) ⌝ }
 {
+    let mut figures = [0i64; 64];
     let mut at = from;
     let mut put = start;
     let mut left = count;
     while left > 0 {
-        let t = do_call(text, at, s, words, figures, out, put);
+        let t = do_call(text, at, s, words, &mut figures, out, put);
         at = t.at;
         put = t.put;
         left -= 1;
@@ -146,19 +145,12 @@ fn run_calls(
     put_end(out, put, words, s)
 }
 
-// The sheet behind a table of contents, by way of words and marks that are all 0.
-fn day_sheet(
-    text: &[u8],
-    c: Contents,
-    words: &mut [i64],
-    marks: &mut [u8],
-    figures: &mut [i64],
-    out: &mut [u8],
-) -> usize
-    requires { ⌜ Modest c ⌝ ∗ ⌜ now words ≡ replicate (lengthOf (c .accounts) (c .products)) (pos 0) ⌝ ∗ ⌜ now marks ≡ noMarks ⌝ ∗ ⌜ 64 ≤ length (now figures) ⌝ ∗ ⌜ 65536 ≤ length (now out) ⌝ }
+// The sheet behind a table of contents, by way of words that are all 0.
+fn day_sheet(text: &[u8], c: Contents, words: &mut [i64], out: &mut [u8]) -> usize
+    requires { ⌜ Modest c ⌝ ∗ ⌜ now words ≡ replicate (lengthOf (c .accounts) (c .products)) (pos 0) ⌝ ∗ ⌜ 65536 ≤ length (now out) ⌝ }
     ensures { λ r. ⌜ (r ≡ 0 + length (daySheet theLedger (bodiesOf (now (text .entry)) c))) × (now (out .exit) ≡ sets (now (out .entry)) 0 (daySheet theLedger (bodiesOf (now (text .entry)) c))) ⌝ }
 {
-    let b = dayfile::bodies_into(text, c, words, marks, figures);
+    let b = dayfile::bodies_into(text, c, words);
     let at = b.at;
     let line = b.line;
     let from = b.calls_at;
@@ -172,27 +164,21 @@ fn day_sheet(
         };
         let k = c.calls;
         let start = lines::put_word(out, 0, b"FXSHEET\n");
-        return run_calls(text, from, k, s, words, figures, out, start);
+        return run_calls(text, from, k, s, words, out, start);
     }
     put_bad(out, 0)
 }
 
 // The sheet, by way of words for the largest ledger.
-fn sheet_by(
-    text: &[u8],
-    words: &mut [i64],
-    marks: &mut [u8],
-    figures: &mut [i64],
-    out: &mut [u8],
-) -> usize
-    requires { ⌜ now words ≡ replicate 2644 (pos 0) ⌝ ∗ ⌜ now marks ≡ noMarks ⌝ ∗ ⌜ 64 ≤ length (now figures) ⌝ ∗ ⌜ 65536 ≤ length (now out) ⌝ }
+fn sheet_by(text: &[u8], words: &mut [i64], out: &mut [u8]) -> usize
+    requires { ⌜ now words ≡ replicate 2644 (pos 0) ⌝ ∗ ⌜ 65536 ≤ length (now out) ⌝ }
     ensures { λ r. ⌜ (r ≡ 0 + length (daySheet theLedger (dayOf (now (text .entry))))) × (now (out .exit) ≡ sets (now (out .entry)) 0 (daySheet theLedger (dayOf (now (text .entry))))) ⌝ }
 {
     let c = dayfile::read_contents(text);
     let n = c.accounts;
     let p = c.products;
     let len = 4 + p * 5 + n * (8 + p * 2);
-    day_sheet(text, c, &mut words[..len], marks, figures, out)
+    day_sheet(text, c, &mut words[..len], out)
 }
 
 // The sheet of any bytes, at the start of `out`, and its length; 0, and `out` left alone, where `out` has less room than a sheet may take.
@@ -206,7 +192,5 @@ pub fn sheet(text: &[u8], out: &mut [u8]) -> usize
         return put_bad(out, 0);
     }
     let mut words = [0i64; WORDS];
-    let mut marks = [0u8; 1024];
-    let mut figures = [0i64; 64];
-    sheet_by(text, &mut words, &mut marks, &mut figures, out)
+    sheet_by(text, &mut words, out)
 }

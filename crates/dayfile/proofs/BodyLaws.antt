@@ -1,5 +1,5 @@
 -- The bodies, section by section; line numbers stay small. Assumes nothing.
-use mathlib.Core.Path.{_≡_}
+use mathlib.Core.Path.{_≡_, refl}
 use mathlib.Core.Bool.{Bool, true, false, cond}
 use mathlib.Core.List.{List}
 use Prim.Native.Nat.{ℕ, zero, suc, _+_, _≤_}
@@ -8,7 +8,7 @@ use lib.Dec.{eqb}
 use lib.IntN.{ℤ}
 use Rattle.lines.specs.Lines.{lost, Line, Stand, placeOf, onward, lines}
 use Rattle.dayfile.specs.Calls.{callsFrom}
-use Rattle.dayfile.specs.Day.{ended, bodiesOf}
+use Rattle.dayfile.specs.Day.{ended, startOf, bodiesOf}
 use Rattle.dayfile.specs.Inside.{Bodied}
 use Rattle.dayfile.specs.Sections.{noMarks, productsFrom, accountsFrom, Stated, positionsFrom}
 use Rattle.dayfile.specs.Words.{freshWords}
@@ -43,13 +43,21 @@ pub calls-line : (text : List ℕ) (at line p k : ℕ) → callsFrom text at lin
 unfolding callsFrom
 calls-line text at line p k = lines-line _ k 0 _
 
-module _ (text : List ℕ) (c : Contents) (w0 w1 w2 w3 : List ℤ) (m0 : List ℕ) (A B D E : Place) (end : ℕ) (e0 : w0 ≡ freshWords (c .accounts) (c .products)) (em : m0 ≡ noMarks) (eA : A ≡ placeOf (productsFrom text (c .at) (c .line) (c .products) w0)) (e1 : w1 ≡ productsFrom text (c .at) (c .line) (c .products) w0 .held) (eB : B ≡ placeOf (accountsFrom text (A .at) (A .line) (c .products) (c .accounts) w1)) (e2 : w2 ≡ accountsFrom text (A .at) (A .line) (c .products) (c .accounts) w1 .held) (eD : D ≡ placeOf (positionsFrom text (B .at) (B .line) (c .accounts) (c .products) (c .positions) (record { words = w2; marks = m0 }))) (e3 : w3 ≡ positionsFrom text (B .at) (B .line) (c .accounts) (c .products) (c .positions) (record { words = w2; marks = m0 }) .held .words) (eE : E ≡ placeOf (callsFrom text (D .at) (D .line) (c .products) (c .calls))) (ee : end ≡ ended text (E .at)) where
-  pub bodies-are : Bodied text c (record { at = end; line = E .line; «calls_at» = D .at }) w3
+-- products, accounts and positions
+module _ (text : List ℕ) (c : Contents) where
+  pub start-line : startOf text c .line ≤ c .line + c .products + c .accounts + c .positions
+  start-line =
+      let n = c .accounts in
+      let p = c .products in
+      let products = productsFrom text (c .at) (c .line) p (freshWords n p) in
+      let accounts = accountsFrom text (products .at) (products .line) p n (products .held) in
+      omega (arith, products-line text (c .at) (c .line) p (freshWords n p), accounts-line text (products .at) (products .line) p n (products .held), positions-line text (accounts .at) (accounts .line) n p (c .positions) (record { words = accounts .held; marks = noMarks }))
+
+  module _ (w0 w1 w2 w3 : List ℤ) (m0 : List ℕ) (A B D : Place) (e0 : w0 ≡ freshWords (c .accounts) (c .products)) (em : m0 ≡ noMarks) (eA : A ≡ placeOf (productsFrom text (c .at) (c .line) (c .products) w0)) (e1 : w1 ≡ productsFrom text (c .at) (c .line) (c .products) w0 .held) (eB : B ≡ placeOf (accountsFrom text (A .at) (A .line) (c .products) (c .accounts) w1)) (e2 : w2 ≡ accountsFrom text (A .at) (A .line) (c .products) (c .accounts) w1 .held) (eD : D ≡ placeOf (positionsFrom text (B .at) (B .line) (c .accounts) (c .products) (c .positions) (record { words = w2; marks = m0 }))) (e3 : w3 ≡ positionsFrom text (B .at) (B .line) (c .accounts) (c .products) (c .positions) (record { words = w2; marks = m0 }) .held .words) where
+    pub start-is : (D ≡ placeOf (startOf text c)) × (w3 ≡ startOf text c .held .words)
+    start-is = (rw (eD, e2, eB, e1, eA, e0, em) refl, rw (e3, e2, eB, e1, eA, e0, em) refl)
+
+  -- and the calls
+  pub bodies-are : (w : List ℤ) (D E : Place) (end : ℕ) → D ≡ placeOf (startOf text c) → w ≡ startOf text c .held .words → E ≡ placeOf (callsFrom text (D .at) (D .line) (c .products) (c .calls)) → end ≡ ended text (E .at) → Bodied text c (record { at = end; line = E .line; «calls_at» = D .at }) w
   unfolding bodiesOf
-  bodies-are =
-      record {
-        at-is = rw (ee, eE, eD, e2, eB, e1, eA, e0, em);
-        line-is = rw (eE, eD, e2, eB, e1, eA, e0, em);
-        calls-are = rw (eD, e2, eB, e1, eA, e0, em);
-        words-are = rw (e3, e2, eB, e1, eA, e0, em);
-      }
+  bodies-are w D E end d e f g = record { at-is = rw (g, f, d) refl; line-is = rw (f, d) refl; calls-at-is = rw d refl; words-are = e }

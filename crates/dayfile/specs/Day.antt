@@ -5,9 +5,9 @@ use Prim.Native.Nat.{ℕ}
 use lib.Dec.{eqb}
 use lib.IntN.{ℤ}
 use lib.ListN.{length}
-use Rattle.lines.specs.Lines.{lost}
+use Rattle.lines.specs.Lines.{lost, Stand}
 use Rattle.dayfile.specs.Calls.{Call, callsFrom, callsAt}
-use Rattle.dayfile.specs.Sections.{productsFrom, accountsFrom, noMarks, positionsFrom}
+use Rattle.dayfile.specs.Sections.{productsFrom, accountsFrom, noMarks, Stated, positionsFrom}
 use Rattle.dayfile.specs.Table.{contentsOf}
 use Rattle.dayfile.specs.Words.{freshWords}
 use Rattle.dayfile.specs.declared.Contents.{Contents}
@@ -25,20 +25,25 @@ pub record Day : Type 0 where
 abbrev pub ended : List ℕ → ℕ → ℕ
 ended text at = cond (eqb at (length text)) at lost
 
--- the four sections in a row, each from where the one before it ended. Nothing is done before all of it is read
-unfoldable pub bodiesOf : List ℕ → Contents → Day
-bodiesOf text c =
+-- products, accounts and positions in a row, each from where the one before it ended
+abbrev pub startOf : List ℕ → Contents → Stand Stated
+startOf text c =
     let n = c .accounts in
     let p = c .products in
     let products = productsFrom text (c .at) (c .line) p (freshWords n p) in
     let accounts = accountsFrom text (products .at) (products .line) p n (products .held) in
-    let positions = positionsFrom text (accounts .at) (accounts .line) n p (c .positions) (record { words = accounts .held; marks = noMarks }) in
-    let calls = callsFrom text (positions .at) (positions .line) p (c .calls) in
+    positionsFrom text (accounts .at) (accounts .line) n p (c .positions) (record { words = accounts .held; marks = noMarks })
+
+-- and the calls. Nothing is done before all of it is read
+unfoldable pub bodiesOf : List ℕ → Contents → Day
+bodiesOf text c =
+    let start = startOf text c in
+    let calls = callsFrom text (start .at) (start .line) (c .products) (c .calls) in
     record {
-      accounts = n;
-      products = p;
-      words = positions .held .words;
-      calls = callsAt text p (positions .at) (c .calls);
+      accounts = c .accounts;
+      products = c .products;
+      words = start .held .words;
+      calls = callsAt text (c .products) (start .at) (c .calls);
       at = ended text (calls .at);
       line = calls .line;
     }

@@ -7,8 +7,8 @@ use Prim.Native.Nat.{ℕ, _≤_}
 use lib.Dec.{ltb}
 use lib.IntN.{ℤ}
 use Rattle.lines.specs.Lines.{Line}
-use Rattle.dayfile.specs.Calls.{mostFigures, figuresOf, callsAt}
-use Rattle.dayfile.specs.Day.{bodiesOf}
+use Rattle.dayfile.specs.Calls.{mostFigures, figuresOf}
+use Rattle.dayfile.specs.Day.{startOf, bodiesOf}
 use Rattle.dayfile.specs.Sections.{Stated, stated}
 use Rattle.dayfile.specs.declared.Contents.{Contents}
 use Rattle.dayfile.specs.declared.Bodies.{Bodies}
@@ -38,5 +38,5 @@ pub record Modest (c : Contents) : Type 0 where
 pub record Bodied (text : List ℕ) (c : Contents) (r : Bodies) (words : List ℤ) : Type 0 where
   pub at-is : r .at ≡ bodiesOf text c .at
   pub line-is : r .line ≡ bodiesOf text c .line
-  pub calls-are : callsAt text (c .products) (r .«calls_at») (c .calls) ≡ bodiesOf text c .calls
+  pub calls-at-is : r .«calls_at» ≡ startOf text c .at
   pub words-are : words ≡ bodiesOf text c .words

@@ -15,9 +15,9 @@ ghost use lib.ListN.{length, replicate};
 ghost use lib.Seq.{sets};
 ghost use Rattle.lines.specs.Lines.{past, placeOf, firstLost};
 ghost use Rattle.dayfile.specs.Calls.{figuresOf, gap, callAt, callsFrom, figure, column};
-ghost use Rattle.dayfile.specs.Day.{ended};
+ghost use Rattle.dayfile.specs.Day.{ended, startOf};
 ghost use Rattle.dayfile.specs.Inside.{givenOf, Modest, Bodied};
-ghost use Rattle.dayfile.specs.Sections.{noMarks, isOneOf};
+ghost use Rattle.dayfile.specs.Sections.{isOneOf};
 ghost use Rattle.dayfile.specs.Table.{tableOf, contentsOf};
 ghost use Rattle.dayfile.specs.Words.{lengthOf};
 
@@ -205,21 +205,14 @@ fn end_of(text: &[u8], at: usize) -> usize
     if at == text.len() { at } else { LOST }
 }
 
-// The bodies, into words that are all 0.
-pub fn bodies_into(
-    text: &[u8],
-    c: Contents,
-    words: &mut [i64],
-    marks: &mut [u8],
-    figures: &mut [i64],
-) -> Bodies
-    requires { ⌜ Modest c ⌝ ∗ ⌜ now words ≡ replicate (lengthOf (c .accounts) (c .products)) (pos 0) ⌝ ∗ ⌜ now marks ≡ noMarks ⌝ ∗ ⌜ 64 ≤ length (now figures) ⌝ }
-    ensures { λ r. ⌜ Bodied (now (text .entry)) c r (now (words .exit)) ⌝ }
+// Products, accounts and positions, into words that are all 0.
+fn start_into(text: &[u8], c: Contents, words: &mut [i64]) -> Place
+    requires { ⌜ Modest c ⌝ ∗ ⌜ now words ≡ replicate (lengthOf (c .accounts) (c .products)) (pos 0) ⌝ }
+    ensures { λ r. ⌜ (r ≡ placeOf (startOf (now (text .entry)) c)) × (now (words .exit) ≡ startOf (now (text .entry)) c .held .words) ⌝ }
 {
     let n = c.accounts;
     let p = c.products;
     let m = c.positions;
-    let k = c.calls;
     let at = c.at;
     let line = c.line;
     words[0] = n as i64;
@@ -230,17 +223,28 @@ pub fn bodies_into(
     let b = sections::accounts(text, at2, line2, n, p, words);
     let at3 = b.at;
     let line3 = b.line;
-    let d = sections::positions(text, at3, line3, m, n, p, words, marks);
-    let at4 = d.at;
-    let line4 = d.line;
-    let e = calls(text, at4, line4, k, p, figures);
-    let at5 = e.at;
-    let line5 = e.line;
-    let end = end_of(text, at5);
+    let mut marks = [0u8; 1024];
+    sections::positions(text, at3, line3, m, n, p, words, &mut marks)
+}
+
+// The bodies, into words that are all 0: the place behind the last call and that of the first.
+pub fn bodies_into(text: &[u8], c: Contents, words: &mut [i64]) -> Bodies
+    requires { ⌜ Modest c ⌝ ∗ ⌜ now words ≡ replicate (lengthOf (c .accounts) (c .products)) (pos 0) ⌝ }
+    ensures { λ r. ⌜ Bodied (now (text .entry)) c r (now (words .exit)) ⌝ }
+{
+    let p = c.products;
+    let k = c.calls;
+    let start = start_into(text, c, words);
+    let from = start.at;
+    let first = start.line;
+    let mut figures = [0i64; 64];
+    let e = calls(text, from, first, k, p, &mut figures);
+    let at = e.at;
+    let line = e.line;
     Bodies {
-        at: end,
-        line: line5,
-        calls_at: at4,
+        at: end_of(text, at),
+        line: line,
+        calls_at: from,
     }
 }
 

@@ -20,50 +20,39 @@ use borrow.Author.Needs.{needs}
 use Rattle.day.proofs.do_call.Statement.{statement}
 use Rattle.day.proofs.do_call.Tie as tie
 
--- src/lib.rt:113:9
 byte-at-requires : tie.Need-byte-at-requires
 byte-at-requires c κs = search needs
 
--- src/lib.rt:114:9
 given-of-requires : tie.Need-given-of-requires
 given-of-requires c κs = search needs
 
--- src/lib.rt:115:9
 call-line-requires : tie.Need-call-line-requires
 call-line-requires c κs = search needs
 
--- src/lib.rt:116:42
 slice-reshare-prefix-act : tie.Need-slice-reshare-prefix-act
 slice-reshare-prefix-act c = search needs
 
--- src/lib.rt:116:42
 slice-aggregate-act : tie.Need-slice-aggregate-act
 slice-aggregate-act c =
     let k = c .before .before .before .before .before .given-of in
     let l = c .before .before .before .call-line in
     sym (length-take-le (k .result) (l .last .1 .1 .1 .0) (omega (arith, k .ensures .1, l .kept .1 .1 .1 .0)))
 
--- src/lib.rt:116:9
 act-requires : tie.Need-act-requires
 act-requires c κs = search needs
 
--- src/lib.rt:119:9
 put-reply-requires : tie.Need-put-reply-requires
 put-reply-requires c κs = search needs
 
--- src/lib.rt:100:1
 same-length : tie.Need-same-length
 same-length c = search needs
 
--- src/lib.rt:100:1
 same-length-2 : tie.Need-same-length-2
 same-length-2 c = search needs
 
--- src/lib.rt:100:1
 same-length-3 : tie.Need-same-length-3
 same-length-3 c = search needs
 
--- src/lib.rt:100:1
 returns : tie.Need-returns
 returns c =
     let s = c .before .before .before .before .before .before .before .before .before .before .before .before .before .before .before .before in

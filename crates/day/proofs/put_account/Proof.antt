@@ -18,99 +18,75 @@ use borrow.Author.Needs.{needs}
 use Rattle.day.proofs.put_account.Statement.{statement}
 use Rattle.day.proofs.put_account.Tie as tie
 
--- src/lib.rt:59:20
 mul-base : tie.Need-mul-base
 mul-base c = search needs
 
--- src/lib.rt:59:16
 add-base : tie.Need-add-base
 add-base c = search needs
 
--- src/lib.rt:59:37
 mul-base-2 : tie.Need-mul-base-2
 mul-base-2 c = search needs
 
--- src/lib.rt:59:33
 add-base-2 : tie.Need-add-base-2
 add-base-2 c = search needs
 
--- src/lib.rt:59:28
 mul-base-3 : tie.Need-mul-base-3
 mul-base-3 c = search needs
 
--- src/lib.rt:59:16
 add-base-3 : tie.Need-add-base-3
 add-base-3 c = search needs
 
--- src/lib.rt:60:18
 cast-number : tie.Need-cast-number
 cast-number c = search needs
 
--- src/lib.rt:61:22
 add-cash : tie.Need-add-cash
 add-cash c = search needs
 
--- src/lib.rt:61:16
 mul-cash : tie.Need-mul-cash
 mul-cash c = search needs
 
--- src/lib.rt:61:16
 shared-slice-copy-out-cash : tie.Need-shared-slice-copy-out-cash
 shared-slice-copy-out-cash c = search needs
 
--- src/lib.rt:62:22
 add-due0 : tie.Need-add-due0
 add-due0 c = search needs
 
--- src/lib.rt:62:16
 mul-due0 : tie.Need-mul-due0
 mul-due0 c = search needs
 
--- src/lib.rt:62:16
 shared-slice-copy-out-due0 : tie.Need-shared-slice-copy-out-due0
 shared-slice-copy-out-due0 c = search needs
 
--- src/lib.rt:63:22
 add-due1 : tie.Need-add-due1
 add-due1 c = search needs
 
--- src/lib.rt:63:16
 mul-due1 : tie.Need-mul-due1
 mul-due1 c = search needs
 
--- src/lib.rt:63:16
 shared-slice-copy-out-due1 : tie.Need-shared-slice-copy-out-due1
 shared-slice-copy-out-due1 c = search needs
 
--- src/lib.rt:64:22
 add-due2 : tie.Need-add-due2
 add-due2 c = search needs
 
--- src/lib.rt:64:16
 mul-due2 : tie.Need-mul-due2
 mul-due2 c = search needs
 
--- src/lib.rt:64:16
 shared-slice-copy-out-due2 : tie.Need-shared-slice-copy-out-due2
 shared-slice-copy-out-due2 c = search needs
 
--- src/lib.rt:65:9
 question-requires : tie.Need-question-requires
 question-requires c κs = search needs
 
--- src/lib.rt:70:30
 slice-aggregate-put-line : tie.Need-slice-aggregate-put-line
 slice-aggregate-put-line c = search needs
 
--- src/lib.rt:70:5
 put-line-requires : tie.Need-put-line-requires
 put-line-requires c κs = search needs
 
--- src/lib.rt:54:1
 same-length : tie.Need-same-length
 same-length c = search needs
 
--- src/lib.rt:54:1
 returns : tie.Need-returns
 returns c =
     let a = c .before .before .before .before .before .before .before .before .before .before .before .before .before .before .args in

@@ -23,14 +23,12 @@ Inv-loop out₀ from words s n at₀ a₀ out at a =
 abbrev μ-loop : tie.MeasureT-loop
 μ-loop out₀ from words s n at₀ a₀ out at a = s .n - a
 
--- src/lib.rt:92:5
 loop-holds : tie.Need-loop-holds Inv-loop μ-loop
 loop-holds c =
     let a = c .before .args in
     let whole = endPart theLedger (a .s .n) (a .s .p) (a .words .now) in
     (omega arith, omega arith, subst (λ (l : List ℕ). Wrote (a .out .now) (a .from) whole (a .out .now) (a .from) l) (accounts-all theLedger (a .s .n) (a .s .p) (a .words .now)) (wrote-none (a .out .now) (a .from) whole))
 
--- src/lib.rt:93:9
 put-account-requires : tie.Need-put-account-requires Inv-loop μ-loop
 put-account-requires c κs =
     let l = c .before .before .loop in
@@ -38,15 +36,12 @@ put-account-requires c κs =
     let h = c .before .before .before .before .pre .0 in
     (omega (arith, h .sized .few), (omega (arith, long (a .s) (a .words .now) h, account-inside (a .s .p) (l .a) (a .s .n) (omega arith)), (h, omega arith)))
 
--- src/lib.rt:94:9
 add-a : tie.Need-add-a Inv-loop μ-loop
 add-a c = omega arith
 
--- src/lib.rt:92:5
 loop-less : tie.Need-loop-less Inv-loop μ-loop
 loop-less c = omega arith
 
--- src/lib.rt:92:5
 loop-again : tie.Need-loop-again Inv-loop μ-loop
 loop-again c =
     let l = c .before .before .before .before .before .loop in
@@ -59,17 +54,14 @@ loop-again c =
       wrote-more (l .inv .2) (numbersLine numbers) rest (accounts-more theLedger (a .s .n) (a .s .p) (l .a) (a .words .now) (omega arith)) (k .ensures .0) (k .ensures .1),
     )
 
--- src/lib.rt:96:5
 put-house-requires : tie.Need-put-house-requires Inv-loop μ-loop
 put-house-requires c κs =
     let b = c .before .before .before .before in
     (omega (arith, long (b .args .s) (b .args .words .now) (b .pre .0)), omega arith)
 
--- src/lib.rt:85:1
 same-length : tie.Need-same-length Inv-loop μ-loop
 same-length c = c .before .before .put-house .kept .0 ∙ c .before .before .before .before .before .loop .inv .2 .same
 
--- src/lib.rt:85:1
 returns : tie.Need-returns Inv-loop μ-loop
 returns c =
     let l = c .before .before .before .before .before .loop in

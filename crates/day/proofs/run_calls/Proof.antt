@@ -20,31 +20,28 @@ use Rattle.day.proofs.run_calls.Statement.{statement}
 use Rattle.day.proofs.run_calls.Tie as tie
 
 abbrev Inv-loop : tie.InvT-loop
-Inv-loop text from count s words₀ figures₀ out₀ start at₀ put₀ left₀ words figures out at put left =
-    (put + left * 44 + s .n * 176 + 28 ≤ length out) × (length figures ≡ length figures₀) × (length words ≡ length words₀) × Ledger byAccount s words
+Inv-loop text from count s words₀ out₀ start figures₀ at₀ put₀ left₀ words out figures at put left =
+    (put + left * 44 + s .n * 176 + 28 ≤ length out) × (length figures ≡ 64) × (length words ≡ length words₀) × Ledger byAccount s words
     × Wrote out₀ start (callsPart theLedger (s .n) (s .p) (callsAt text (s .p) from count) words₀) out put (callsPart theLedger (s .n) (s .p) (callsAt text (s .p) at left) words)
 
 abbrev μ-loop : tie.MeasureT-loop
-μ-loop text from count s words₀ figures₀ out₀ start at₀ put₀ left₀ words figures out at put left =
-    left
+μ-loop text from count s words₀ out₀ start figures₀ at₀ put₀ left₀ words out figures at put left = left
 
--- src/lib.rt:140:5
 loop-holds : tie.Need-loop-holds Inv-loop μ-loop
 loop-holds c = (omega arith, refl, refl, c .before .before .pre .0, wrote-none _ _ _)
 
--- src/lib.rt:141:13
-do-call-requires : tie.Need-do-call-requires Inv-loop μ-loop
-do-call-requires c κs = (c .before .before .before .before .loop .inv .3, (omega (arith, c .before .before .before .before .loop .inv .1, c .before .before .before .before .before .before .before .pre .1 .0), omega (arith, c .before .before .before .before .loop .inv .0)))
+slice-aggregate-do-call : tie.Need-slice-aggregate-do-call Inv-loop μ-loop
+slice-aggregate-do-call c = search needs
 
--- src/lib.rt:144:9
+do-call-requires : tie.Need-do-call-requires Inv-loop μ-loop
+do-call-requires c κs = let i = c .before .before .before .before .loop .inv in (i .3, (omega (arith, i .1), omega (arith, i .0)))
+
 sub-left : tie.Need-sub-left Inv-loop μ-loop
 sub-left c = omega arith
 
--- src/lib.rt:140:5
 loop-less : tie.Need-loop-less Inv-loop μ-loop
 loop-less c = omega arith
 
--- src/lib.rt:140:5
 loop-again : tie.Need-loop-again Inv-loop μ-loop
 loop-again c =
     let l = c .before .before .before .before .before .before .before .before .before .loop in
@@ -63,23 +60,15 @@ loop-again c =
       wrote-more (l .inv .4) (replyLine (done .0)) rest rest-is (k .ensures .put-is) (k .ensures .out-is),
     )
 
--- src/lib.rt:146:5
 put-end-requires : tie.Need-put-end-requires Inv-loop μ-loop
 put-end-requires c κs = (c .before .before .before .loop .inv .3, omega (arith, c .before .before .before .loop .inv .0))
 
--- src/lib.rt:124:1
 same-length : tie.Need-same-length Inv-loop μ-loop
 same-length c = search needs
 
--- src/lib.rt:124:1
 same-length-2 : tie.Need-same-length-2 Inv-loop μ-loop
-same-length-2 c = search needs
+same-length-2 c = c .before .before .put-end .kept .0 ∙ c .before .before .before .before .before .before .loop .inv .4 .same
 
--- src/lib.rt:124:1
-same-length-3 : tie.Need-same-length-3 Inv-loop μ-loop
-same-length-3 c = c .before .before .put-end .kept .0 ∙ c .before .before .before .before .before .before .loop .inv .4 .same
-
--- src/lib.rt:124:1
 returns : tie.Need-returns Inv-loop μ-loop
 returns c =
     let l = c .before .before .before .before .before .before .loop in
@@ -95,6 +84,7 @@ run-calls-spec =
     Inv-loop
     μ-loop
     loop-holds
+    slice-aggregate-do-call
     do-call-requires
     sub-left
     loop-less
@@ -102,5 +92,4 @@ run-calls-spec =
     put-end-requires
     same-length
     same-length-2
-    same-length-3
     returns)

@@ -12,27 +12,21 @@ use borrow.Author.Needs.{needs}
 use Rattle.lines.proofs.minus_of.Statement.{statement}
 use Rattle.lines.proofs.minus_of.Tie as tie
 
--- src/rt:102:9
 returns : tie.Need-returns
 returns c = simp (eq-eqb _ _ (c .if1 .taken))
 
--- src/rt:105:9
 returns-2 : tie.Need-returns-2
 returns-2 c = simp (ne-eqb _ _ (c .before .if1 .left), eq-eqb _ _ (c .if2 .taken))
 
--- src/rt:108:9
 returns-3 : tie.Need-returns-3
 returns-3 c = simp (ne-eqb _ _ (c .before .before .if1 .left), ne-eqb _ _ (c .before .if2 .left), lt-ltb _ _ (c .if3 .taken))
 
--- src/rt:111:9
 returns-4 : tie.Need-returns-4
 returns-4 c = simp (ne-eqb _ _ (c .before .before .before .if1 .left), ne-eqb _ _ (c .before .before .if2 .left), c .if4 .taken)
 
--- src/rt:113:13
 cast-n : tie.Need-cast-n
 cast-n c = search needs
 
--- src/rt:114:20
 less : (c : tie.Else4) → c .before .before .before .before .args .value < 9223372036854775808
 less c =
     let n : c .before .before .before .before .args .value ≡ 9223372036854775808 → ⊥ = c .if4 .left in
@@ -44,7 +38,6 @@ zero-less c = ap (λ z. pos 0 -ℤ z) (toZ-pos w64 (less c)) ∙ neg-is (c .befo
 sub-t7 : tie.Need-sub-t7
 sub-t7 c = simp (zero-less c) (neg-fits (c .before .before .before .before .args .value) (less c))
 
--- src/rt:98:1
 returns-5 : tie.Need-returns-5
 returns-5 c = simp (zero-less c, toZ-ofZ (neg-fits (c .before .before .before .before .args .value) (less c)), ne-eqb _ _ (c .before .before .before .if1 .left), ne-eqb _ _ (c .before .before .if2 .left), le-ltb _ _ (c .before .if3 .left))
 

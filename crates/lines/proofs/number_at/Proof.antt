@@ -5,45 +5,35 @@ use borrow.Author.Needs.{needs}
 use Rattle.lines.proofs.number_at.Statement.{statement}
 use Rattle.lines.proofs.number_at.Tie as tie
 
--- src/rt:142:9
 returns : tie.Need-returns
 returns c = numeral-none (c .before .before .args .text .now) (c .before .before .args .at) (c .if1 .taken)
 
--- src/rt:144:17
 shared-slice-read-first : tie.Need-shared-slice-read-first
 shared-slice-read-first c = search needs
 
--- src/rt:146:20
 add-from : tie.Need-add-from
 add-from c = search needs
 
--- src/rt:147:13
 byte-at-requires : tie.Need-byte-at-requires
 byte-at-requires c κs = search needs
 
--- src/rt:148:13
 digits-requires : tie.Need-digits-requires
 digits-requires c κs = search needs
 
--- src/rt:151:9
 minus-of-requires : tie.Need-minus-of-requires
 minus-of-requires c κs = search needs
 
--- src/rt:151:9
 returns-2 : tie.Need-returns-2
 returns-2 c =
     let a = c .before .before .before .before .before .before .before .args in
     c .minus-of .ensures ∙ numeral-minus (a .text .now) (a .at) (c .before .before .byte-at .result) (c .before .digits .result) (c .before .before .before .if2 .taken) (c .before .before .byte-at .ensures) (c .before .digits .ensures)
 
--- src/rt:153:9
 digits-requires-2 : tie.Need-digits-requires-2
 digits-requires-2 c κs = search needs
 
--- src/rt:156:5
 plain-of-requires : tie.Need-plain-of-requires
 plain-of-requires c κs = search needs
 
--- src/rt:138:1
 returns-3 : tie.Need-returns-3
 returns-3 c =
     let a = c .before .before .before .before .before .before .args in

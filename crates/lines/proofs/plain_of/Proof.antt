@@ -10,31 +10,24 @@ use borrow.Author.Needs.{needs}
 use Rattle.lines.proofs.plain_of.Statement.{statement}
 use Rattle.lines.proofs.plain_of.Tie as tie
 
--- src/rt:122:9
 returns : tie.Need-returns
 returns c = simp (eq-eqb _ _ (c .if1 .taken))
 
--- src/rt:125:19
 add-if3 : tie.Need-add-if3
 add-if3 c = search needs
 
--- src/rt:126:13
 returns-2 : tie.Need-returns-2
 returns-2 c = simp (ne-eqb _ _ (c .before .before .if1 .left), eq-eqb _ _ (c .before .if2 .taken), ne-eqb _ _ (c .if3 .taken))
 
--- src/rt:128:9
 returns-3 : tie.Need-returns-3
 returns-3 c = simp (ne-eqb _ _ (c .before .before .if1 .left), eq-eqb _ _ (c .before .if2 .taken), eq-eqb _ _ (c .if3 .left))
 
--- src/rt:131:9
 returns-4 : tie.Need-returns-4
 returns-4 c = simp (ne-eqb _ _ (c .before .before .if1 .left), ne-eqb _ _ (c .before .if2 .left), lt-ltb _ _ (c .if4 .taken))
 
--- src/rt:133:13
 cast-n : tie.Need-cast-n
 cast-n c = search needs
 
--- src/rt:117:1
 small : (c : tie.Else4) → toZ w64 (c .before .before .before .args .value) ≡ pos (c .before .before .before .args .value)
 small c = toZ-pos w64 (omega arith)
 

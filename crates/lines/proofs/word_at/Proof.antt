@@ -10,46 +10,36 @@ use borrow.Author.Needs.{needs}
 use Rattle.lines.proofs.word_at.Statement.{statement}
 use Rattle.lines.proofs.word_at.Tie as tie
 
--- src/rt:42:28
 sub-starts-with : tie.Need-sub-starts-with
 sub-starts-with c = search needs
 
--- src/rt:42:28
 part-starts-with-start : tie.Need-part-starts-with-start
 part-starts-with-start c = search needs
 
--- src/rt:42:28
 part-starts-with-end : tie.Need-part-starts-with-end
 part-starts-with-end c = search needs
 
--- src/rt:42:9
 starts-with-requires : tie.Need-starts-with-requires
 starts-with-requires c κs = search needs
 
--- src/rt:42:9
 returns : tie.Need-returns
 returns c =
     let a = c .before .before .before .before .before .args in
     let h : length (a .text .now) ≤ a .at = omega arith in
     c .starts-with .ensures ∙ ap (startsWith (a .word .now)) (part-all (a .text .now) (length (a .text .now)) ∙ drop-length (a .text .now) ∙ sym (drop-of-length-le (a .text .now) h))
 
--- src/rt:44:17
 sub-starts-with-2 : tie.Need-sub-starts-with-2
 sub-starts-with-2 c = search needs
 
--- src/rt:44:17
 part-starts-with-start-2 : tie.Need-part-starts-with-start-2
 part-starts-with-start-2 c = search needs
 
--- src/rt:44:17
 part-starts-with-end-2 : tie.Need-part-starts-with-end-2
 part-starts-with-end-2 c = search needs
 
--- src/rt:44:5
 starts-with-requires-2 : tie.Need-starts-with-requires-2
 starts-with-requires-2 c κs = search needs
 
--- src/rt:38:1
 returns-2 : tie.Need-returns-2
 returns-2 c =
     let a = c .before .before .before .before .before .args in
