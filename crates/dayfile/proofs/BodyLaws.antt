@@ -39,10 +39,6 @@ pub positions-line : (text : List ℕ) (at line n p m : ℕ) (s : Stated) → po
 unfolding positionsFrom
 positions-line text at line n p m s = lines-line _ m 0 _
 
-pub calls-line : (text : List ℕ) (at line p k : ℕ) → callsFrom text at line p k .line ≤ line + k
-unfolding callsFrom
-calls-line text at line p k = lines-line _ k 0 _
-
 -- products, accounts and positions
 module _ (text : List ℕ) (c : Contents) where
   pub start-line : startOf text c .line ≤ c .line + c .products + c .accounts + c .positions

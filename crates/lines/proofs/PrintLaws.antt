@@ -1,7 +1,7 @@
 -- Printed digits, numbers and lines: how long they are, and how one more digit or one more number goes on. Assumes nothing.
 use mathlib.Core.Path.{_≡_, refl, sym, _∙_, ap}
 use mathlib.Core.Bool.{Bool, true, false, true≢false, cond}
-use mathlib.Core.List.{List, [], _∷_, _++_, append-nil}
+use mathlib.Core.List.{List, [], _∷_, _++_}
 use Prim.Native.Nat.{ℕ, zero, suc, _+_, _*_, _-_, _/_, _%_, _^_, _≤_, _<_, zero-le}
 use native.Mathlib.Numerals.{add-one}
 use native.Mathlib.Omega.{arith}
@@ -11,9 +11,8 @@ use lib.IntN.{ℤ, pos, negsuc, natAbs}
 use lib.Signed.{ltZ}
 use lib.ListN.{length, drop, getD, length-drop, length-append}
 use lib.Seq.{drop-cons}
-use Rattle.lines.specs.Bytes.{bytes}
 use Rattle.lines.specs.Lines.{closing}
-use Rattle.lines.specs.Print.{digits, natural, decimal, field, numbersLine, badLine}
+use Rattle.lines.specs.Print.{digits, natural, decimal, field, numbersLine}
 
 digits-long : (k n : ℕ) (t : Bool) → length (digits k (n / 10)) ≤ k → length (cond t ((48 + n) ∷ []) (digits k (n / 10) ++ ((48 + n % 10) ∷ []))) ≤ suc k
 digits-long k n true h = omega arith
@@ -72,7 +71,3 @@ line-more zs i h = rw (drop-cons zs i (pos 0) h, add-one i, ← length-drop (suc
 pub line-none : numbersLine [] ≡ []
 unfolding numbersLine
 line-none = refl
-
-pub bad-is : (k : ℕ) → badLine k ≡ bytes "BAD " ++ (natural k ++ (10 ∷ []))
-unfolding badLine numbersLine decimal
-bad-is k = ap (λ (l : List ℕ). bytes "BAD " ++ l) (append-nil (natural k ++ (10 ∷ [])))
