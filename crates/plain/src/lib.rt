@@ -289,6 +289,14 @@ fn is_closed(text: &[u8], from: usize) -> bool {
     false
 }
 
+// A line that is not there: one of the table of contents, or one that the table states.
+fn absent(text: &[u8], at: usize, line: usize) -> Finding {
+    if line < 7 {
+        return table_finding(text, at, line);
+    }
+    about_line(Fault::Missing)
+}
+
 fn find(text: &[u8], line: usize) -> Finding {
     if text.len() > LONGEST {
         return about_line(Fault::TooLong);
@@ -298,7 +306,7 @@ fn find(text: &[u8], line: usize) -> Finding {
     }
     let at = line_start(text, line);
     if at == text.len() {
-        return about_line(Fault::Missing);
+        return absent(text, at, line);
     }
     if !is_closed(text, at) {
         return about_line(Fault::NoLineFeed);

@@ -22,8 +22,8 @@ returns-2 c = search needs
 line-start-requires : tie.Need-line-start-requires
 line-start-requires c κs = search needs
 
-about-line-requires-3 : tie.Need-about-line-requires-3
-about-line-requires-3 c κs = search needs
+absent-requires : tie.Need-absent-requires
+absent-requires c κs = search needs
 
 returns-3 : tie.Need-returns-3
 returns-3 c = search needs
@@ -31,8 +31,8 @@ returns-3 c = search needs
 is-closed-requires : tie.Need-is-closed-requires
 is-closed-requires c κs = search needs
 
-about-line-requires-4 : tie.Need-about-line-requires-4
-about-line-requires-4 c κs = search needs
+about-line-requires-3 : tie.Need-about-line-requires-3
+about-line-requires-3 c κs = search needs
 
 returns-4 : tie.Need-returns-4
 returns-4 c = search needs
@@ -62,10 +62,10 @@ find-spec =
     about-line-requires-2
     returns-2
     line-start-requires
-    about-line-requires-3
+    absent-requires
     returns-3
     is-closed-requires
-    about-line-requires-4
+    about-line-requires-3
     returns-4
     table-finding-requires
     returns-5
