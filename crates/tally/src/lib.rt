@@ -1,14 +1,21 @@
 // What the programs of the gate count by: how many words of two lists differ.
+ghost use mathlib.Core.Path.{_≡_};
+ghost use mathlib.Core.Bool.{not};
 ghost use Prim.Native.Nat.{_≤_};
+ghost use lib.Dec.{eqb};
+ghost use Rattle.whole.specs.Below.{one-if};
+ghost use Rattle.tally.specs.Tally.{other, differing};
 
 pub fn differ(x: i64, y: i64) -> u64
-    ensures { λ r. ⌜ r ≤ 1 ⌝ }
+    ensures { λ r. ⌜ r ≡ one-if (other x y) ⌝ ∗ ⌜ r ≤ 1 ⌝ }
 {
-    if x != y { 1 } else { 0 }
+    if whole::within(x, y, y) { 0 } else { 1 }
 }
 
 // How many words of two lists of one length differ; 1 where they have not one length.
-pub fn altered(a: &[i64], b: &[i64]) -> u64 {
+pub fn altered(a: &[i64], b: &[i64]) -> u64
+    ensures { λ r. ⌜ r ≡ differing (now (a .entry)) (now (b .entry)) ⌝ }
+{
     if a.len() != b.len() {
         return 1;
     }
@@ -23,7 +30,7 @@ pub fn altered(a: &[i64], b: &[i64]) -> u64 {
 
 // 1 where a count is not 0: a sum of a few of these neither wraps nor comes out 0 where a count was not.
 pub fn some(count: u64) -> u64
-    ensures { λ r. ⌜ r ≤ 1 ⌝ }
+    ensures { λ r. ⌜ r ≡ one-if (not (eqb count 0)) ⌝ ∗ ⌜ r ≤ 1 ⌝ }
 {
-    if count != 0 { 1 } else { 0 }
+    if count == 0 { 0 } else { 1 }
 }

@@ -1,0 +1,2 @@
+-- What the programs of the gate count by.
+pub mod Tally
