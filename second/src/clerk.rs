@@ -80,3 +80,14 @@ pub trait Clerk {
 pub struct Plain;
 
 impl Clerk for Plain {}
+
+/// What this program is set against: itself, or the archive where one is linked.
+pub fn other(with_self: bool) -> Option<&'static dyn Clerk> {
+    if with_self {
+        return Some(&Plain);
+    }
+    #[cfg(window)]
+    return Some(&crate::window::Window);
+    #[cfg(not(window))]
+    None
+}

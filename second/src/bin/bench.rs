@@ -8,7 +8,7 @@
 //! restored before each timed part, outside it. Sheets are written into a room
 //! that is lent again each time. Exit status: 2 if there is nothing to time.
 
-use second::clerk::{Clerk, Lists, Members, Plain};
+use second::clerk::{other, Clerk, Lists, Members, Plain};
 use second::gen::ledgers::{self, Flavour};
 use second::gen::{shares, texts};
 use second::ledger::Layout;
@@ -269,14 +269,4 @@ fn options() -> Result<(usize, bool), String> {
         return Err("--rounds takes a number above 0".to_string());
     }
     Ok((rounds, with_self))
-}
-
-fn other(with_self: bool) -> Option<&'static dyn Clerk> {
-    if with_self {
-        return Some(&Plain);
-    }
-    #[cfg(window)]
-    return Some(&second::window::Window);
-    #[cfg(not(window))]
-    None
 }

@@ -9,7 +9,7 @@
 //! compares this program with itself, to try the harness without an archive.
 //! Exit status: 0 alike, 1 a difference, 2 nothing to compare with.
 
-use second::clerk::{Clerk, Plain};
+use second::clerk::{other, Plain};
 use second::harness::{Difference, Harness};
 use second::rng::Rng;
 use std::io::Write;
@@ -132,14 +132,4 @@ fn options() -> Result<Options, String> {
         return Err("--seconds takes a number above 0".to_string());
     }
     Ok(options)
-}
-
-fn other(with_self: bool) -> Option<&'static dyn Clerk> {
-    if with_self {
-        return Some(&Plain);
-    }
-    #[cfg(window)]
-    return Some(&second::window::Window);
-    #[cfg(not(window))]
-    None
 }
