@@ -42,6 +42,8 @@ pub record Refusals : Type 0 where
   pub four : Refused (opening (pos 0)) (tradeRule (pos 0) (pos 1) (pos 1) (pos 1) (pos 1502500)) 4 (pos 0)
   pub five-deposit : Refused (opening (pos 0)) (depositRule (pos 0) (pos 0)) 5 (pos 0)
   pub five-withdrawal : Refused (opening (pos 0)) (withdrawRule (pos 0) (pos 0)) 5 (pos 0)
+  -- a guarantee out of range, for an L: the lowest number
+  pub five-guarantee : Refused (opening (pos 0)) (guaranteeRule (pos 1) (pos 1000000000001) (pos 0)) 5 (pos 0)
   -- a guarantee for an L; a trade of two F
   pub six-guarantee : Refused (opening (pos 0)) (guaranteeRule (pos 1) (pos 1) (pos 1)) 6 (pos 0)
   pub six-trade : Refused (opening (pos 0)) (tradeRule (pos 0) (pos 0) (pos 0) (pos 1) (pos 1502500)) 6 (pos 0)
@@ -72,6 +74,7 @@ refusals =
       four = refl;
       five-deposit = refl;
       five-withdrawal = refl;
+      five-guarantee = refl;
       six-guarantee = refl;
       six-trade = refl;
       seven-step = refl;
