@@ -1,6 +1,6 @@
 //! Links the archive of the proved program, where one is named.
 //!
-//! `HEIDBUMMEN_LIB=/path/to/libwindow.a cargo build --release` turns on the
+//! `HEIDBUMMEN_LIB=/path/to/libinterface.a cargo build --release` turns on the
 //! `window` cfg and hands the archive to the linker. Without the variable the
 //! package builds all the same, and `compare` and `bench` say that there is
 //! nothing to compare with.

@@ -87,7 +87,7 @@ pub fn other(with_self: bool) -> Option<&'static dyn Clerk> {
         return Some(&Plain);
     }
     #[cfg(window)]
-    return Some(&crate::window::Window);
+    return Some(&crate::interface::Interface);
     #[cfg(not(window))]
     None
 }

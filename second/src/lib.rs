@@ -22,7 +22,7 @@ pub mod share;
 pub mod sheet;
 pub mod teller;
 #[cfg(window)]
-pub mod window;
+pub mod interface;
 
 pub use calls::{deposit, guarantee, question, trade, withdraw};
 pub use close::close;

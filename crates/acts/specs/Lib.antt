@@ -3,7 +3,7 @@
 --   OneAccount, RequestsLaws   what a request about one account puts and sees (`own`, `nothing`), and that it keeps the ledger sound
 --   TradeLaws                  the same of a trade (`trading`)
 --   RunLaws, StepLaws          the same of begin (`beginning`) and of step (`stepping`), and every word after a step
---   Keeps                      each call leaves a ledger
+--   ActsKeep                      each call leaves a ledger
 --   WithdrawalLaws             when a withdrawal is paid, both ways
 pub mod Requests
 pub mod Trade
@@ -13,5 +13,5 @@ pub mod RequestsLaws
 pub mod TradeLaws
 pub mod RunLaws
 pub mod StepLaws
-pub mod Keeps
+pub mod ActsKeep
 pub mod WithdrawalLaws

@@ -11,14 +11,14 @@ use native.Mathlib.Decide.{ℕ-discrete}
 use lib.Dec.{eqb}
 use lib.IntN.{ℤ, natAbs}
 use lib.ListN.{length, length-set}
-use Rattle.whole.specs.Number.{isBelow}
-use Rattle.whole.specs.Tests.{is-below}
+use Rattle.whole.specs.Number.{isOneOf, unless}
+use Rattle.whole.specs.Tests.{is-one-of}
 use Rattle.rules.specs.Account.{accountOk}
 use Rattle.rules.specs.declared.Account.{Account}
 use Rattle.places.specs.declared.Shape.{Shape}
-use Rattle.places.specs.Place.{size, fields, Place, head, prod, acct, held, Has, View, Layout, Put, get, put, puts}
+use Rattle.places.specs.Place.{wordsOf, fields, Place, head, prod, acct, held, Has, View, Layout, Put, get, put, puts}
 use Rattle.places.specs.PlaceLaws.{Each, each-map, get-put-same, get-put-other}
-use Rattle.places.specs.Act.{shapeOf, Act, unless}
+use Rattle.places.specs.Act.{shapeOf, Act}
 use Rattle.places.specs.ActLaws.{sized}
 use Rattle.places.specs.Footprint.{Footprint, Inside, Differ, KeepsTo, sees, differ}
 use Rattle.soundness.specs.Sound.{accountAt, sound, placesOk}
@@ -89,7 +89,7 @@ pub record Proper {A : Type 0} (f : ℕ → Account → Act A) : Type 0 where
 
 module _ (L : Layout) (s : Shape) (a : ℕ) (in-n : a < s .n) where
   -- one put
-  word-put : (W : List ℤ) → length W ≡ size s → (i : ℕ) (v : ℤ) → i < fields → (f : ℕ) → f < fields
+  word-put : (W : List ℤ) → length W ≡ wordsOf s → (i : ℕ) (v : ℤ) → i < fields → (f : ℕ) → f < fields
       → get L s (put L s W (acct a i) v) (acct a f) ≡ cond (eqb i f) v (get L s W (acct a f))
   word-put W l i v h f k = go (eqb i f) refl
     where
@@ -97,7 +97,7 @@ module _ (L : Layout) (s : Shape) (a : ℕ) (in-n : a < s .n) where
       go true e = rw (← eqb-true i f e) (get-put-same L s W (acct a i) v l (in-n, h))
       go false e = get-put-other L s W (acct a i) (acct a f) v (in-n, h) (in-n, k) (λ p. eqb-false i f e (cc))
 
-  account-put : (W : List ℤ) → length W ≡ size s → (i : ℕ) (v : ℤ) → i < fields → accountAt (get L s (put L s W (acct a i) v)) a ≡ amend (accountAt (get L s W) a) i v
+  account-put : (W : List ℤ) → length W ≡ wordsOf s → (i : ℕ) (v : ℤ) → i < fields → accountAt (get L s (put L s W (acct a i) v)) a ≡ amend (accountAt (get L s W) a) i v
   account-put W l i v h d =
       record {
         kind = word-put W l i v h 0 (omega arith) d;
@@ -110,7 +110,7 @@ module _ (L : Layout) (s : Shape) (a : ℕ) (in-n : a < s .n) where
         due2 = word-put W l i v h 7 (omega arith) d;
       }
 
-  account-put-at : (W : List ℤ) → length W ≡ size s → (q : Place) (v : ℤ) → OwnPuts a q → accountAt (get L s (put L s W q v)) a ≡ amendAt (accountAt (get L s W) a) q v
+  account-put-at : (W : List ℤ) → length W ≡ wordsOf s → (q : Place) (v : ℤ) → OwnPuts a q → accountAt (get L s (put L s W q v)) a ≡ amendAt (accountAt (get L s W) a) q v
   account-put-at W l (head k) v h = absurd h
   account-put-at W l (prod j f) v h = absurd h
   account-put-at W l (acct b i) v h =
@@ -118,7 +118,7 @@ module _ (L : Layout) (s : Shape) (a : ℕ) (in-n : a < s .n) where
   account-put-at W l (held b j f) v h = absurd h
 
   -- any number of puts
-  pub account-puts : (us : List Put) → Each (OwnPuts a) us → (W : List ℤ) → length W ≡ size s
+  pub account-puts : (us : List Put) → Each (OwnPuts a) us → (W : List ℤ) → length W ≡ wordsOf s
       → accountAt (get L s (puts L s W us)) a ≡ amended (accountAt (get L s W) a) us
   account-puts [] h W l = refl
   account-puts (u ∷ us) h W l =
@@ -163,7 +163,7 @@ module _ {A : Type 0} (L : Layout) (W : List ℤ) (e : sound L W ≡ true) (nay 
   abbrev g : View
   g = get L s W
 
-  pub request-of : Proper f → isBelow (s .n) a ≡ true → KeepsTo placesOk L W (own (natAbs a)) (atAccount nay a f)
+  pub request-of : Proper f → isOneOf (s .n) a ≡ true → KeepsTo placesOk L W (own (natAbs a)) (atAccount nay a f)
   request-of p t =
       record {
         inside = rw t (own-inside L s k in-n us own-us);
@@ -171,14 +171,14 @@ module _ {A : Type 0} (L : Layout) (W : List ℤ) (e : sound L W ≡ true) (nay 
             (facts-kept L W e (own k) us (own-inside L s k in-n us own-us)
             (own-facts s k g (get L s (puts L s W us)) (differ L W (own k) us (own-inside L s k in-n us own-us))
             (ap accountOk (account-puts L s k in-n us own-us W (sized placesOk L W e)) ∙ p .in-order k (accountAt g k) (sound-facts L W e .account k in-n))));
-        blind = λ vs o. ap (λ r. unless (isBelow (s .n) a) nay (f k r)) (account-same g (get L s (puts L s W vs)) k (λ i h. sees L W (own k) vs o (acct k i) (in-n, h) refl));
+        blind = λ vs o. ap (λ r. unless (isOneOf (s .n) a) nay (f k r)) (account-same g (get L s (puts L s W vs)) k (λ i h. sees L W (own k) vs o (acct k i) (in-n, h) refl));
       }
     where
       k : ℕ
       k = natAbs a
 
       in-n : k < s .n
-      in-n = is-below (s .n) a t .high
+      in-n = is-one-of (s .n) a t .high
 
       us : List Put
       us = f k (accountAt g k) .puts
@@ -187,13 +187,13 @@ module _ {A : Type 0} (L : Layout) (W : List ℤ) (e : sound L W ≡ true) (nay 
       own-us = p .own-puts k (accountAt g k)
 
   -- a request about no account of the ledger sees nothing
-  pub request-none : isBelow (s .n) a ≡ false → KeepsTo placesOk L W nothing (atAccount nay a f)
+  pub request-none : isOneOf (s .n) a ≡ false → KeepsTo placesOk L W nothing (atAccount nay a f)
   request-none t = record { inside = rw (t, none) tt; sound-after = rw (t, none) e; blind = λ vs o. rw t refl }
 
   -- either way it leaves a sound ledger
   pub request-safe : Proper f → Safe L W (atAccount nay a f)
-  request-safe p = go (isBelow (s .n) a) refl
+  request-safe p = go (isOneOf (s .n) a) refl
     where
-      go : (t : Bool) → isBelow (s .n) a ≡ t → Safe L W (atAccount nay a f)
+      go : (t : Bool) → isOneOf (s .n) a ≡ t → Safe L W (atAccount nay a f)
       go true t = safe-of L W (own (natAbs a)) (atAccount nay a f) (request-of p t)
       go false t = safe-of L W nothing (atAccount nay a f) (request-none t)

@@ -5,20 +5,20 @@ use mathlib.Core.Bool.{cond}
 use Prim.Native.Nat.{ℕ}
 use lib.Dec.{eqb}
 use lib.IntN.{ℤ, natAbs}
-use Rattle.whole.specs.Number.{isBelow}
-use Rattle.rules.specs.Calls.{deposited, withdrawn, guaranteed, standingOf, replyOf}
+use Rattle.whole.specs.Number.{isOneOf, unless}
+use Rattle.rules.specs.AccountCalls.{deposited, withdrawn, guaranteed, standingOf, replyOf}
 use Rattle.rules.specs.declared.Account.{Account}
 use Rattle.rules.specs.declared.Reply.{Reply}
 use Rattle.rules.specs.declared.Standing.{Standing}
 use Rattle.rules.specs.declared.Taken.{Taken}
 use Rattle.places.specs.Place.{Put, _≔_, cash, guarantee, cap}
-use Rattle.places.specs.Act.{Act, Rule, unless}
+use Rattle.places.specs.Act.{Act, Rule}
 use Rattle.soundness.specs.Sound.{accountAt}
 use Rattle.soundness.specs.Perform.{refuse, refuseQuestion}
 
 -- a request about the account a is an act on its record, with the account's number for the puts
 abbrev pub atAccount : {A : Type 0} → Act A → ℤ → (ℕ → Account → Act A) → Rule A
-atAccount refusal a f s g = unless (isBelow (s .n) a) refusal (f (natAbs a) (accountAt g (natAbs a)))
+atAccount refusal a f s g = unless (isOneOf (s .n) a) refusal (f (natAbs a) (accountAt g (natAbs a)))
 
 -- the reply of a call on the record; the puts where it was taken
 abbrev pub whenTaken : Taken → List Put → Act Reply

@@ -8,8 +8,8 @@ use native.Mathlib.Omega.{arith}
 use lib.Dec.{eqb}
 use lib.IntN.{ℤ}
 use Rattle.rules.specs.Account.{accountOk}
-use Rattle.rules.specs.Calls.{deposited, withdrawn, guaranteed}
-use Rattle.rules.specs.CallsLaws.{deposited-keeps, deposited-changes, withdrawn-keeps, withdrawn-changes, guaranteed-keeps, guaranteed-changes}
+use Rattle.rules.specs.AccountCalls.{deposited, withdrawn, guaranteed}
+use Rattle.rules.specs.AccountCallsLaws.{deposited-keeps, deposited-changes, withdrawn-keeps, withdrawn-changes, guaranteed-keeps, guaranteed-changes}
 use Rattle.rules.specs.declared.Account.{Account}
 use Rattle.rules.specs.declared.Taken.{Taken}
 use Rattle.places.specs.Place.{Put, _≔_, cash, guarantee, cap}

@@ -3,11 +3,11 @@
 use mathlib.Core.List.{List, [], _∷_, _++_}
 use Prim.Native.Nat.{ℕ, _+_, _-_}
 use lib.IntN.{pos, _-ℤ_}
-use Rattle.whole.specs.Number.{between, is}
-use Rattle.rules.specs.Calls.{transferred}
+use Rattle.whole.specs.Number.{between, is, unless}
+use Rattle.rules.specs.AccountCalls.{transferred}
 use Rattle.rules.specs.declared.Reply.{Reply}
 use Rattle.places.specs.Place.{View, Put, _≔_, phase, house, cash, due}
-use Rattle.places.specs.Act.{Rule, unless}
+use Rattle.places.specs.Act.{Rule}
 use Rattle.soundness.specs.Sound.{accountAt, turn, stays}
 use Rattle.soundness.specs.Perform.{refuse, does}
 

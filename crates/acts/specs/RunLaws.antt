@@ -7,7 +7,7 @@ use mathlib.Core.Bool.{Bool, true, false}
 use Prim.Native.Nat.{ℕ, _+_, _-_, _≤_, _<_}
 use native.Mathlib.Omega.{arith}
 use lib.IntN.{ℤ, pos, natAbs}
-use Rattle.whole.specs.Number.{within, between, is}
+use Rattle.whole.specs.Number.{within, between, is, unless}
 use Rattle.whole.specs.Tests.{InRange, in-range, is-in}
 use Rattle.rules.specs.Sizes.{mostHouse}
 use Rattle.rules.specs.Account.{accountOk}
@@ -15,7 +15,7 @@ use Rattle.rules.specs.declared.Reply.{Reply}
 use Rattle.places.specs.declared.Shape.{Shape}
 use Rattle.places.specs.Place.{Place, head, prod, acct, held, View, Layout, Put, _≔_, get, puts, house, phase, due}
 use Rattle.places.specs.PlaceLaws.{get-put-same}
-use Rattle.places.specs.Act.{shapeOf, Act, unless}
+use Rattle.places.specs.Act.{shapeOf, Act}
 use Rattle.places.specs.ActLaws.{unless-puts, sized}
 use Rattle.places.specs.Footprint.{Footprint, Inside, Differ, KeepsTo, acts, wordsAfter, sees, differ}
 use Rattle.soundness.specs.Sound.{accountAt, turn, stays, sound, placesOk}

@@ -12,8 +12,8 @@ use Rattle.whole.specs.Number.{within, between, is}
 use Rattle.whole.specs.Tests.{both, InRange, in-range, is-in}
 use Rattle.rules.specs.Sizes.{mostHouse}
 use Rattle.rules.specs.Account.{accountOk}
-use Rattle.rules.specs.Calls.{transferred}
-use Rattle.rules.specs.CallsLaws.{transferred-keeps}
+use Rattle.rules.specs.AccountCalls.{transferred}
+use Rattle.rules.specs.AccountCallsLaws.{transferred-keeps}
 use Rattle.places.specs.declared.Shape.{Shape}
 use Rattle.places.specs.Place.{fields, Place, head, acct, Has, View, Layout, Put, _≔_, get, puts, house, phase, cash, due}
 use Rattle.places.specs.PlaceLaws.{get-puts}

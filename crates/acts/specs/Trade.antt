@@ -4,11 +4,11 @@ use mathlib.Core.List.{List, [], _∷_}
 use mathlib.Core.Bool.{Bool, _&&_, _||_}
 use Prim.Native.Nat.{ℕ}
 use lib.IntN.{ℤ, pos, natAbs, _+ℤ_, _-ℤ_, _*ℤ_}
-use Rattle.whole.specs.Number.{within, between, is, isBelow}
+use Rattle.whole.specs.Number.{within, between, is, isOneOf, unless}
 use Rattle.rules.specs.Sizes.{mostPrice, mostBook, mostLots}
 use Rattle.rules.specs.declared.Reply.{Reply}
 use Rattle.places.specs.Place.{View, Put, _≔_, kind, productKind, lots, book}
-use Rattle.places.specs.Act.{Act, Rule, unless}
+use Rattle.places.specs.Act.{Act, Rule}
 use Rattle.soundness.specs.Perform.{refuse, does}
 
 -- one F and one L
@@ -44,6 +44,6 @@ tradeBetween b s j q t g =
 
 abbrev pub tradeRule : ℤ → ℤ → ℤ → ℤ → ℤ → Rule Reply
 tradeRule buyer seller product q t s g =
-    unless (isBelow (s .n) buyer && isBelow (s .n) seller) (refuse 3)
-    (unless (isBelow (s .p) product) (refuse 4)
+    unless (isOneOf (s .n) buyer && isOneOf (s .n) seller) (refuse 3)
+    (unless (isOneOf (s .p) product) (refuse 4)
     (tradeBetween (natAbs buyer) (natAbs seller) (natAbs product) q t g))

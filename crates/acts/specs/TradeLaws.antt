@@ -9,13 +9,13 @@ use native.Mathlib.Omega.{arith}
 use native.Mathlib.Decide.{ℕ-discrete}
 use lib.ListN.{length}
 use lib.IntN.{ℤ, natAbs, _+ℤ_, _-ℤ_, _*ℤ_}
-use Rattle.whole.specs.Number.{is, isBelow}
-use Rattle.whole.specs.Below.{sum}
-use Rattle.whole.specs.BelowLaws.{sum-same, two-terms}
-use Rattle.whole.specs.Tests.{both, in-range, is-below}
+use Rattle.whole.specs.Number.{is, isOneOf}
+use Rattle.whole.specs.Counting.{sum}
+use Rattle.whole.specs.CountingLaws.{sum-same, two-terms}
+use Rattle.whole.specs.Tests.{both, in-range, is-one-of}
 use Rattle.rules.specs.Account.{accountOk}
 use Rattle.places.specs.declared.Shape.{Shape}
-use Rattle.places.specs.Place.{Place, head, prod, acct, held, Has, size, View, Layout, Put, _≔_, get, puts, kind, productKind, lots, book}
+use Rattle.places.specs.Place.{Place, head, prod, acct, held, Has, wordsOf, View, Layout, Put, _≔_, get, puts, kind, productKind, lots, book}
 use Rattle.places.specs.PlaceLaws.{get-puts}
 use Rattle.places.specs.Act.{shapeOf}
 use Rattle.places.specs.ActLaws.{unless-puts, unless-same, sized}
@@ -84,14 +84,14 @@ trade-puts : (P : List Put → Type 0) (s : Shape) (g : View) (b c j q t : ℤ) 
     → (Trades s g (natAbs b) (natAbs c) (natAbs j) q t → P (tradePuts (natAbs b) (natAbs c) (natAbs j) q t g))
     → P (tradeRule b c j q t s g .puts)
 trade-puts P s g b c j q t z h =
-    unless-puts P (isBelow (s .n) b && isBelow (s .n) c) (refuse 3) _ z (λ e. unless-puts P (isBelow (s .p) j) (refuse 4) _ z (λ e′.
+    unless-puts P (isOneOf (s .n) b && isOneOf (s .n) c) (refuse 3) _ z (λ e. unless-puts P (isOneOf (s .p) j) (refuse 4) _ z (λ e′.
     unless-puts P (oneOfEach (g (kind B)) (g (kind C))) (refuse 6) _ z (λ k.
     unless-puts P (termsOk g J q t) (refuse 8) _ z (λ _. unless-puts P up (refuse 9) _ z (λ u. unless-puts P down (refuse 9) _ z (λ v.
-    let bc = both (isBelow (s .n) b) (isBelow (s .n) c) e in
+    let bc = both (isOneOf (s .n) b) (isOneOf (s .n) c) e in
     h (record {
-      buyer = is-below (s .n) b (bc .0) .high;
-      seller = is-below (s .n) c (bc .1) .high;
-      product = is-below (s .p) j e′ .high;
+      buyer = is-one-of (s .n) b (bc .0) .high;
+      seller = is-one-of (s .n) c (bc .1) .high;
+      product = is-one-of (s .p) j e′ .high;
       two = λ w. one-of-each (g (kind B)) (g (kind C)) k (ap (λ y. g (kind y)) w);
       rises = u;
       falls = v;
@@ -127,7 +127,7 @@ record Pair (s : Shape) (b c j : ℕ) : Type 0 where
   product : j < s .p
   two : b ≢ c
 
-module _ (L : Layout) (s : Shape) (W : List ℤ) (z : length W ≡ size s) (b c j : ℕ) (h : Pair s b c j) (l v l′ v′ : ℤ) where
+module _ (L : Layout) (s : Shape) (W : List ℤ) (z : length W ≡ wordsOf s) (b c j : ℕ) (h : Pair s b c j) (l v l′ v′ : ℤ) where
   abbrev after : View
   after = get L s (puts L s W (bothPuts b c j l v l′ v′))
 
@@ -247,9 +247,9 @@ module _ (L : Layout) (W : List ℤ) (e : sound L W ≡ true) where
         inside = trade-puts (Inside s trading) s g b c j q t tt (inside (natAbs b) (natAbs c) (natAbs j) q t);
         sound-after = trade-puts (λ vs. sound L (puts L s W vs) ≡ true) s g b c j q t e (sound-then (natAbs b) (natAbs c) (natAbs j) q t);
         blind = λ vs o.
-            unless-same (isBelow (s .n) b && isBelow (s .n) c) (refuse 3) _ _ (λ i. unless-same (isBelow (s .p) j) (refuse 4) _ _ (λ i′.
-            let bc = both (isBelow (s .n) b) (isBelow (s .n) c) i in
-            let hb = is-below (s .n) b (bc .0) .high in let hc = is-below (s .n) c (bc .1) .high in let hj = is-below (s .p) j i′ .high in
+            unless-same (isOneOf (s .n) b && isOneOf (s .n) c) (refuse 3) _ _ (λ i. unless-same (isOneOf (s .p) j) (refuse 4) _ _ (λ i′.
+            let bc = both (isOneOf (s .n) b) (isOneOf (s .n) c) i in
+            let hb = is-one-of (s .n) b (bc .0) .high in let hc = is-one-of (s .n) c (bc .1) .high in let hj = is-one-of (s .p) j i′ .high in
             rw (
               sees L W trading vs o (kind (natAbs b)) (hb, omega arith) refl,
               sees L W trading vs o (kind (natAbs c)) (hc, omega arith) refl,

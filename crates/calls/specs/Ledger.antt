@@ -13,7 +13,7 @@ use Rattle.acts.specs.Requests.{depositRule, withdrawRule, guaranteeRule, quest
 use Rattle.acts.specs.Trade.{tradeRule}
 use Rattle.acts.specs.Run.{beginRule, stepRule}
 use Rattle.closing.specs.Close.{closeRule}
-use Rattle.dayfile.specs.Calls.{Call, deposit, withdrawal, guarantee, begin, step, trade, close, none}
+use Rattle.dayfile.specs.CallLines.{Call, deposit, withdrawal, guarantee, begin, step, trade, close, none}
 
 -- whether the words are sound, what a call answers and leaves, what a question about an account answers
 pub record LedgerRules : Type 0 where

@@ -11,7 +11,7 @@ use lib.Seq.{sets}
 use Rattle.rules.specs.declared.Reply.{Reply}
 use Rattle.rules.specs.declared.Standing.{Standing}
 use Rattle.places.specs.declared.Shape.{Shape}
-use Rattle.places.specs.Place.{prod, acct, held, size, get}
+use Rattle.places.specs.Place.{prod, acct, held, wordsOf, get}
 use Rattle.places.specs.Act.{finish}
 use Rattle.places.specs.ActLaws.{performed-at}
 use Rattle.places.specs.ByAccount.{byAccount}
@@ -19,17 +19,17 @@ use Rattle.soundness.specs.Sound.{placesOk}
 use Rattle.soundness.specs.SoundLaws.{Ledger}
 use Rattle.soundness.specs.Perform.{refuse, refuseQuestion}
 use Rattle.soundness.specs.Keep.{After, ledger-called}
-use Rattle.acts.specs.Keeps.{deposit-keeps, withdraw-keeps, guarantee-keeps, trade-keeps, begin-keeps, step-keeps}
+use Rattle.acts.specs.ActsKeep.{deposit-keeps, withdraw-keeps, guarantee-keeps, trade-keeps, begin-keeps, step-keeps}
 use Rattle.acts.specs.Requests.{questionRule}
-use Rattle.closing.specs.Keeps.{close-keeps}
-use Rattle.dayfile.specs.Calls.{Call, deposit, withdrawal, guarantee, begin, step, trade, close, none, column}
+use Rattle.closing.specs.CloseKeeps.{close-keeps}
+use Rattle.dayfile.specs.CallLines.{Call, deposit, withdrawal, guarantee, begin, step, trade, close, none, column}
 use Rattle.lines.proofs.WriteLaws.{take-figures}
 use Rattle.dayfile.specs.Words.{productWord, accountWord, positionWord, lengthOf}
 use Rattle.calls.specs.Ledger.{ruleOf, theLedger}
 
 -- ---- the layout
 module _ (s : Shape) where
-  pub size-is : size s ≡ lengthOf (s .n) (s .p)
+  pub size-is : wordsOf s ≡ lengthOf (s .n) (s .p)
   size-is = rw (mul-comm 5 (s .p), mul-comm 2 (s .p)) refl
 
   pub product-place : (j f : ℕ) → byAccount .at s (prod j f) ≡ productWord j + f

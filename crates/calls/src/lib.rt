@@ -6,8 +6,8 @@ use rules::Standing;
 ghost use mathlib.Core.Path.{_≡_};
 ghost use Rattle.places.specs.ByAccount.{byAccount};
 ghost use Rattle.soundness.specs.SoundLaws.{Ledger};
-ghost use Rattle.dayfile.specs.Calls.{callOf};
-ghost use Rattle.calls.specs.Inside.{tradeOf, closeOf, callOnAll};
+ghost use Rattle.dayfile.specs.CallLines.{callOf};
+ghost use Rattle.calls.specs.InsideCalls.{tradeOf, closeOf, callOnAll};
 ghost use Rattle.calls.specs.Ledger.{theLedger};
 
 const MOST_PRODUCTS: usize = 16;

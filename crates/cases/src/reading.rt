@@ -36,7 +36,7 @@ pub fn list_at(line: &[u8], from: usize, out: &mut [i64]) -> List
     ensures { λ r. ⌜ r .count ≤ length (now (out .entry)) ⌝ }
 {
     let f = lines::field_at(line, from, b' ');
-    let count = whole::size(f.value) as usize;
+    let count = whole::nat_abs(f.value) as usize;
     if count > out.len() {
         return List {
             count: 0,
@@ -52,7 +52,7 @@ pub fn is(x: i64, n: u64) -> bool {
     if x < 0 {
         return false;
     }
-    whole::size(x) == n
+    whole::nat_abs(x) == n
 }
 
 // Whether a line ends with number, figure and checksum, as they came out.

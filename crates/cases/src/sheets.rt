@@ -3,7 +3,7 @@ use crate::reading;
 use crate::sums;
 
 fn put(out: &mut [u8], i: usize, x: i64) {
-    let byte = (whole::size(x) % 256) as u8;
+    let byte = (whole::nat_abs(x) % 256) as u8;
     if i < out.len() {
         out[i] = byte;
     }

@@ -8,7 +8,7 @@ pub const MODULUS: u64 = 2147483647;
 fn rest(w: i64) -> u64
     ensures { λ r. ⌜ r < 2147483647 ⌝ }
 {
-    let r = whole::size(w) % MODULUS;
+    let r = whole::nat_abs(w) % MODULUS;
     if w >= 0 {
         return r;
     }

@@ -5,14 +5,14 @@ use mathlib.Core.List.{List}
 use Prim.Native.Nat.{ℕ, _+_, _≤_, _<_}
 use lib.IntN.{ℤ, pos}
 use borrow.Author.Tests.{lt-ltb, le-ltb}
-use Rattle.whole.specs.Number.{is}
-use Rattle.whole.specs.Below.{all, least}
+use Rattle.whole.specs.Number.{is, unless}
+use Rattle.whole.specs.Counting.{all, least}
 use Rattle.rules.specs.declared.Reply.{Reply}
 use Rattle.places.specs.declared.Shape.{Shape}
 use Rattle.places.specs.Place.{View, Layout, get, puts, phase}
-use Rattle.places.specs.Act.{Act, unless, finish}
+use Rattle.places.specs.Act.{Act, finish}
 use Rattle.soundness.specs.Perform.{replies, refuse}
-use Rattle.daily.specs.Figures.{lengthsOk, figureOk, overGross}
+use Rattle.daily.specs.DailyFigures.{lengthsOk, figureOk, overGross}
 use Rattle.closing.specs.Close.{closed, closing, closePuts, closeRule}
 
 module _ (L : Layout) (prices rates8 rates104 lags : List ℤ) (s : Shape) (W : List ℤ) (a : ℕ) (e : a ≡ least (s .n) (overGross prices lags s (get L s W))) where

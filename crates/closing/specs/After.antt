@@ -9,12 +9,13 @@ use lib.Dec.{ltb, eqb}
 use lib.IntN.{ℤ, pos}
 use lib.ListN.{length}
 use borrow.Author.Tests.{le-ltb, eq-eqb}
+use Rattle.whole.specs.Counting.{figureAt}
 use Rattle.whole.specs.Tests.{clash}
 use Rattle.places.specs.declared.Shape.{Shape}
-use Rattle.places.specs.Place.{Place, head, prod, acct, held, Has, View, Layout, Put, _≔_, get, puts, each, dues, firstDue, phase, price, margin, due, book, size}
+use Rattle.places.specs.Place.{Place, head, prod, acct, held, Has, View, Layout, Put, _≔_, get, puts, each, dues, firstDue, phase, price, margin, due, book, wordsOf}
 use Rattle.places.specs.PlaceLaws.{each-map, each-append, each-each}
 use Rattle.places.specs.Passes.{Agree, Off, unseen, Leaves, Elsewhere, leaves-put, leaves-later, leaves-after, leaves-each}
-use Rattle.daily.specs.Figures.{word, newDue, newMargin, newBook}
+use Rattle.daily.specs.DailyFigures.{newDue, newMargin, newBook}
 use Rattle.closing.specs.Close.{duePuts, bookPuts, pricePuts, accountPuts, closePuts}
 use Rattle.closing.specs.Seen.{accountSees, account-at, account-off}
 
@@ -36,7 +37,7 @@ module _ (prices rates8 rates104 lags : List ℤ) (s : Shape) where
   pub record After (g g′ : View) : Type 0 where
     pub kept : Agree s closeKeeps g′ g
     pub phase-new : g′ phase ≡ pos 0
-    pub price-new : (j : ℕ) → j < s .p → g′ (price j) ≡ word prices j
+    pub price-new : (j : ℕ) → j < s .p → g′ (price j) ≡ figureAt prices j
     pub margin-new : (a : ℕ) → a < s .n → g′ (margin a) ≡ newMargin prices rates8 rates104 s g a
     pub due-new : (a d : ℕ) → a < s .n → d < dues → g′ (due a d) ≡ newDue prices lags s g a d
     pub book-new : (a j : ℕ) → a < s .n → j < s .p → g′ (book a j) ≡ newBook prices g a j
@@ -121,10 +122,10 @@ module _ (prices rates8 rates104 lags : List ℤ) (s : Shape) where
           leaves-after L s q hq v (one ++ each dues D) (each (s .p) B)
           (leaves-each L s q hq v (s .p) B j hj (leaves-put L s q hq v) (λ m h k. (((ha, h, omega arith), λ e. let z : j ≡ m = cc in omega arith), tt)))
 
-    leaves-price : (j : ℕ) (hj : j < s .p) → Leaves L s (price j) (hj, omega arith) (word prices j) (closePuts prices rates8 rates104 lags s g)
+    leaves-price : (j : ℕ) (hj : j < s .p) → Leaves L s (price j) (hj, omega arith) (figureAt prices j) (closePuts prices rates8 rates104 lags s g)
     unfolding closePuts
     leaves-price j hj =
-        let q = price j in let hq : Has s (price j) = (hj, omega arith) in let v = word prices j in
+        let q = price j in let hq : Has s (price j) = (hj, omega arith) in let v = figureAt prices j in
         leaves-later L s q hq v (accounts ++ news) last
         (leaves-after L s q hq v accounts news (leaves-each L s q hq v (s .p) (pricePuts prices) j hj (leaves-put L s q hq v) (λ m h k. (((h, omega arith), λ e. let z : j ≡ m = cc in omega arith), tt))))
         ((omega arith, λ e. let z : _≡_ {A = ℕ} 0 1 = cc in omega arith), tt)
@@ -134,7 +135,7 @@ module _ (prices rates8 rates104 lags : List ℤ) (s : Shape) where
     leaves-phase = leaves-after L s phase (omega arith) (pos 0) (accounts ++ news) last (leaves-put L s phase (omega arith) (pos 0))
 
 -- what the places say after the close
-pub after : (L : Layout) (prices rates8 rates104 lags : List ℤ) (s : Shape) (W : List ℤ) → length W ≡ size s
+pub after : (L : Layout) (prices rates8 rates104 lags : List ℤ) (s : Shape) (W : List ℤ) → length W ≡ wordsOf s
     → After prices rates8 rates104 lags s (get L s W) (get L s (puts L s W (closePuts prices rates8 rates104 lags s (get L s W))))
 after L prices rates8 rates104 lags s W z =
     let g = get L s W in

@@ -5,14 +5,14 @@ use mathlib.Core.Bool.{cond}
 use Prim.Native.Nat.{ℕ, _+_}
 use lib.Dec.{ltb}
 use lib.IntN.{ℤ, pos}
-use Rattle.whole.specs.Number.{is}
-use Rattle.whole.specs.Below.{all, least}
+use Rattle.whole.specs.Number.{is, unless}
+use Rattle.whole.specs.Counting.{all, least, figureAt}
 use Rattle.rules.specs.declared.Reply.{Reply}
 use Rattle.places.specs.declared.Shape.{Shape}
 use Rattle.places.specs.Place.{View, Put, _≔_, each, dues, phase, price, margin, due, book}
-use Rattle.places.specs.Act.{Act, Rule, unless}
+use Rattle.places.specs.Act.{Act, Rule}
 use Rattle.soundness.specs.Perform.{refuse, refuseAt, does}
-use Rattle.daily.specs.Figures.{word, lengthsOk, figureOk, newDue, newMargin, newBook, overGross}
+use Rattle.daily.specs.DailyFigures.{lengthsOk, figureOk, newDue, newMargin, newBook, overGross}
 
 -- ---- the puts: per account its initial margin, its dues and its books; per product its last price; the phase
 
@@ -23,7 +23,7 @@ abbrev pub bookPuts : List ℤ → ℕ → View → ℕ → List Put
 bookPuts prices a g j = (book a j ≔ newBook prices g a j) ∷ []
 
 abbrev pub pricePuts : List ℤ → ℕ → List Put
-pricePuts prices j = (price j ≔ word prices j) ∷ []
+pricePuts prices j = (price j ≔ figureAt prices j) ∷ []
 
 unfoldable pub accountPuts : List ℤ → List ℤ → List ℤ → List ℤ → Shape → View → ℕ → List Put
 accountPuts prices rates8 rates104 lags s g a =

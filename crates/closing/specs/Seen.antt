@@ -9,11 +9,12 @@ use native.Mathlib.Omega.{arith}
 use lib.Dec.{ltb, eqb}
 use lib.IntN.{ℤ, _*ℤ_}
 use borrow.Author.Tests.{lt-ltb, eq-eqb, ne-eqb}
+use Rattle.whole.specs.Counting.{figureAt}
 use Rattle.places.specs.declared.Shape.{Shape}
 use Rattle.places.specs.Place.{Place, head, prod, acct, held, Has, View, _≔_, each, dues, firstDue, margin, due, lots, book}
 use Rattle.places.specs.PlaceLaws.{Each, each-append, each-each, each-same}
 use Rattle.places.specs.Passes.{Agree, Sees, Off}
-use Rattle.daily.specs.Figures.{word, nextDue, newMargin}
+use Rattle.daily.specs.DailyFigures.{nextDue, newMargin}
 use Rattle.daily.specs.Ranges.{EachDueIn}
 use Rattle.daily.specs.Alike.{Alike, next-same, due-same, margin-same}
 use Rattle.closing.specs.Close.{duePuts, bookPuts, accountPuts}
@@ -72,7 +73,7 @@ module _ (s : Shape) (a : ℕ) (h : a < s .n) where
   -- ---- who sees what
 
   books-same : (prices : List ℤ) (g g′ : View) → Alike s a g g′ → each (s .p) (bookPuts prices a g) ≡ each (s .p) (bookPuts prices a g′)
-  books-same prices g g′ e = each-same (s .p) (bookPuts prices a g) (bookPuts prices a g′) (λ j k i. (book a j ≔ e .position j 0 k (omega arith) i *ℤ word prices j) ∷ [])
+  books-same prices g g′ e = each-same (s .p) (bookPuts prices a g) (bookPuts prices a g′) (λ j k i. (book a j ≔ e .position j 0 k (omega arith) i *ℤ figureAt prices j) ∷ [])
 
   dues-same : (prices lags : List ℤ) (g g′ : View) → Alike s a g g′ → ((d : ℕ) → d < dues → nextDue g a d ≡ nextDue g′ a d)
       → each dues (duePuts prices lags s a g) ≡ each dues (duePuts prices lags s a g′)
@@ -84,7 +85,7 @@ module _ (s : Shape) (a : ℕ) (h : a < s .n) where
       dues-same prices lags g g′ (alike s a h duesSee g g′ e (λ j f. refl) (λ j f. refl)) (λ d l. next-is s a h duesSee g g′ e d (any-due a (d + 1)))
 
   pub book-sees : (prices : List ℤ) (j : ℕ) → j < s .p → Sees s bookSees (λ g. bookPuts prices a g j)
-  book-sees prices j k g g′ e = ap (λ z. (book a j ≔ z *ℤ word prices j) ∷ []) (e (lots a j) (h, k, omega arith) refl)
+  book-sees prices j k g g′ e = ap (λ z. (book a j ≔ z *ℤ figureAt prices j) ∷ []) (e (lots a j) (h, k, omega arith) refl)
 
   pub books-see : (prices : List ℤ) → Sees s booksSee (λ g. each (s .p) (bookPuts prices a g))
   books-see prices g g′ e = books-same prices g g′ (alike s a h booksSee g g′ e (λ j f. refl) (λ j f. refl))

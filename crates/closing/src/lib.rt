@@ -5,14 +5,14 @@ ghost use mathlib.Core.Bool.{true};
 ghost use Prim.Native.Nat.{_+_, _<_, _≤_};
 ghost use lib.ListN.{length};
 ghost use Rattle.whole.specs.Number.{is};
-ghost use Rattle.whole.specs.Below.{all, least};
+ghost use Rattle.whole.specs.Counting.{all, least};
 ghost use Rattle.places.specs.Place.{get, puts, each, dues, phase};
 ghost use Rattle.places.specs.PlaceLaws.{Sized};
 ghost use Rattle.places.specs.ByAccount.{byAccount};
 ghost use Rattle.places.specs.Act.{finish};
 ghost use Rattle.soundness.specs.Perform.{perform};
 ghost use Rattle.soundness.specs.SoundLaws.{Ledger};
-ghost use Rattle.daily.specs.Figures.{overGross, figureOk};
+ghost use Rattle.daily.specs.DailyFigures.{overGross, figureOk};
 ghost use Rattle.daily.specs.Ranges.{Lengths, Rates, Lags, Row, EachDueIn, Ready};
 ghost use Rattle.closing.specs.Close as C;
 use places::Shape;
@@ -34,10 +34,10 @@ fn first_over(words: &[i64], s: Shape, prices: &[i64], lags: &[i64], new: &mut [
     let mut a = 0;
     'search: while a < n {
         daily::new_dues(words, s, a, prices, lags, new);
-        let mut gross = whole::size(places::acct_word(words, s, a, places::CASH));
+        let mut gross = whole::nat_abs(places::acct_word(words, s, a, places::CASH));
         let mut d = 0;
         while d < places::DUES {
-            gross += whole::size(new[d]);
+            gross += whole::nat_abs(new[d]);
             if gross > rules::sizes::MOST_GROSS {
                 break 'search;
             }
@@ -172,7 +172,7 @@ fn phase_is(words: &[i64], s: Shape, f: usize) -> bool
     ensures { λ r. ⌜ r ≡ is f (get byAccount s (now (words .entry)) phase) ⌝ }
 {
     let k = f as i64;
-    whole::within(places::head_word(words, s, places::PHASE), k, k)
+    whole::between(places::head_word(words, s, places::PHASE), k, k)
 }
 
 // The close, where its lists and the phase are right.

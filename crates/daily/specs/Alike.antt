@@ -8,12 +8,13 @@ use native.Mathlib.Omega.{arith}
 use lib.Dec.{ltb, eqb}
 use lib.IntN.{pos, natAbs, ℤ, _+ℤ_}
 use borrow.Author.Tests.{ltb-true}
-use Rattle.whole.specs.BelowLaws.{sum-same, total-same}
+use Rattle.whole.specs.Counting.{figureAt}
+use Rattle.whole.specs.CountingLaws.{sum-same, total-same}
 use Rattle.rules.specs.Product.{rateOf, yenProduct, marginOf, differenceOf}
 use Rattle.places.specs.declared.Shape.{Shape}
 use Rattle.places.specs.Place.{View, prod, held, dues, productFields, heldFields, due}
 use Rattle.soundness.specs.Sound.{productAt}
-use Rattle.daily.specs.Figures.{word, difference, addedTo, nextDue, newDue, charge, newMargin}
+use Rattle.daily.specs.DailyFigures.{difference, addedTo, nextDue, newDue, charge, newMargin}
 use Rattle.daily.specs.Ranges.{Row}
 
 -- two views that agree on the products and on the positions of a
@@ -32,13 +33,13 @@ next-same a d g g′ e = go (ltb (d + 1) dues) refl
 module _ (prices : List ℤ) (s : Shape) (a : ℕ) (g g′ : View) (e : Alike s a g g′) where
   difference-same : (j : ℕ) → j < s .p → difference prices g a j ≡ difference prices g′ a j
   difference-same j h i =
-      differenceOf (e .product j 0 h (omega arith) i) (e .position j 0 h (omega arith) i) (e .position j 1 h (omega arith) i) (word prices j) (word prices (natAbs (e .product j 4 h (omega arith) i)))
+      differenceOf (e .product j 0 h (omega arith) i) (e .position j 0 h (omega arith) i) (e .position j 1 h (omega arith) i) (figureAt prices j) (figureAt prices (natAbs (e .product j 4 h (omega arith) i)))
 
   pub due-same : (lags : List ℤ) (d : ℕ) → nextDue g a d ≡ nextDue g′ a d → newDue prices lags s g a d ≡ newDue prices lags s g′ a d
   unfolding newDue
   due-same lags d n =
       ap₂ (λ x y. x +ℤ y) n
-      (sum-same (s .p) (addedTo prices lags g a d) (addedTo prices lags g′ a d) (λ j h. ap (λ z. cond (eqb (natAbs (word lags j)) d) z (pos 0)) (difference-same j h)))
+      (sum-same (s .p) (addedTo prices lags g a d) (addedTo prices lags g′ a d) (λ j h. ap (λ z. cond (eqb (natAbs (figureAt lags j)) d) z (pos 0)) (difference-same j h)))
 
   product-same : (j : ℕ) → j < s .p → productAt g j ≡ productAt g′ j
   product-same j h i =
@@ -48,7 +49,7 @@ module _ (prices : List ℤ) (s : Shape) (a : ℕ) (g g′ : View) (e : Alike s 
   unfolding newMargin
   margin-same rates8 rates104 =
       ap pos (total-same (s .p) (charge prices rates8 rates104 g a) (charge prices rates8 rates104 g′ a) (λ j h i.
-      marginOf (e .position j 0 h (omega arith) i) (word prices (yenProduct (product-same j h i) j)) (rateOf (e .product j 1 h (omega arith) i) (word rates8 j) (word rates104 j))))
+      marginOf (e .position j 0 h (omega arith) i) (figureAt prices (yenProduct (product-same j h i) j)) (rateOf (e .product j 1 h (omega arith) i) (figureAt rates8 j) (figureAt rates104 j))))
 
   pub row-same : Row prices s g′ a → Row prices s g a
   row-same r =

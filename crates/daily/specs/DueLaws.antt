@@ -10,10 +10,10 @@ use lib.IntN.{ℤ, pos, natAbs, _+ℤ_, +ℤ-idr, +ℤ-assoc}
 use lib.ListN.{length, getD, set, length-set}
 use lib.Seq.{getD-set-same, getD-set-other, ext-getD}
 use borrow.Author.Tests.{eqb-true, eqb-false, eq-eqb, ne-eqb}
-use Rattle.whole.specs.Below.{sum, listed}
+use Rattle.whole.specs.Counting.{sum, listed, figureAt}
 use Rattle.whole.specs.Listed.{length-listed, getD-listed}
 use Rattle.places.specs.Place.{View, dues}
-use Rattle.daily.specs.Figures.{word, difference, addedTo, nextDue}
+use Rattle.daily.specs.DailyFigures.{difference, addedTo, nextDue}
 
 -- the list f 0, f 1, .. with its word k made h's is h's list, where the others are h's already
 module _ (n : ℕ) (f h : ℕ → ℤ) (k : ℕ) (b : k < n) (others : (i : ℕ) → i ≢ k → f i ≡ h i) (v : ℤ) (e : v ≡ h k) where
@@ -37,7 +37,7 @@ part prices lags g a j d = nextDue g a d +ℤ sum j (addedTo prices lags g a d)
 
 module _ (prices lags : List ℤ) (g : View) (a j : ℕ) where
   abbrev k : ℕ
-  k = natAbs (word lags j)
+  k = natAbs (figureAt lags j)
 
   other : (i : ℕ) → i ≢ k → part prices lags g a j i ≡ part prices lags g a (j + 1) i
   other i ne = rw (add-one j, ne-eqb k i (λ q. ne (sym q))) (ap (λ z. nextDue g a i +ℤ z) (sym (+ℤ-idr (sum j (addedTo prices lags g a i)))))

@@ -9,10 +9,10 @@ use lib.Dec.{ltb, eqb}
 use lib.IntN.{ℤ, pos, natAbs, _+ℤ_}
 use lib.ListN.{length}
 use borrow.Author.Tests.{eqb-true, ltb-true}
-use Rattle.whole.specs.Number.{within, between, is, isBelow}
-use Rattle.whole.specs.Below.{all, sum, total}
-use Rattle.whole.specs.BelowLaws.{all-at, sum-abs, total-most}
-use Rattle.whole.specs.Tests.{both, InRange, in-range, is-below, within-true, abs-add}
+use Rattle.whole.specs.Number.{within, between, is, isOneOf}
+use Rattle.whole.specs.Counting.{all, sum, total, figureAt}
+use Rattle.whole.specs.CountingLaws.{all-at, sum-abs, total-most}
+use Rattle.whole.specs.Tests.{both, InRange, in-range, is-one-of, within-true, abs-add}
 use Rattle.rules.specs.Sizes.{isYen, mostPrice, mostBook, mostLots, mostRate, mostGross}
 use Rattle.rules.specs.Product.{rateOf}
 use Rattle.rules.specs.ProductLaws.{Fair, fair-in, rate-in, margin-in, price-most}
@@ -22,7 +22,7 @@ use Rattle.places.specs.declared.Shape.{Shape}
 use Rattle.places.specs.Place.{Place, View, dues, productKind, floorMark, price, principal, quote, cash, due, lots, book}
 use Rattle.soundness.specs.Sound.{accountAt, productOk, namesYen, yenPair, crossPair, pairOk}
 use Rattle.soundness.specs.SoundLaws.{Facts}
-use Rattle.daily.specs.Figures.{word, lengthsOk, figureOk, difference, addedTo, nextDue, newDue, charge}
+use Rattle.daily.specs.DailyFigures.{lengthsOk, figureOk, difference, addedTo, nextDue, newDue, charge}
 
 -- the number of the product whose price is Y, by the words of the product j (`yenProduct`)
 abbrev yenOf : ℤ → ℕ → ℤ → ℕ
@@ -32,11 +32,11 @@ yenOf kind j principal = cond (isYen kind) j (natAbs principal)
 pub record Cell (p : ℕ) (prices : List ℤ) (j : ℕ) (kind lots book principal quote : ℤ) : Type 0 where
   pub lots-in : natAbs lots ≤ mostLots
   pub book-in : natAbs book ≤ mostBook kind
-  pub price-in : InRange 1 (mostPrice kind) (word prices j)
+  pub price-in : InRange 1 (mostPrice kind) (figureAt prices j)
   pub quote-in : natAbs quote < p
   pub yen-in : yenOf kind j principal < p
-  pub quote-price : InRange 1 5000000 (word prices (natAbs quote))
-  pub yen-price : InRange 1 5000000 (word prices (yenOf kind j principal))
+  pub quote-price : InRange 1 5000000 (figureAt prices (natAbs quote))
+  pub yen-price : InRange 1 5000000 (figureAt prices (yenOf kind j principal))
 
 pub record Row (prices : List ℤ) (s : Shape) (g : View) (a : ℕ) : Type 0 where
   pub priced : length prices ≡ s .p
@@ -45,13 +45,13 @@ pub record Row (prices : List ℤ) (s : Shape) (g : View) (a : ℕ) : Type 0 whe
 pub record Rates (p : ℕ) (rates8 rates104 : List ℤ) : Type 0 where
   pub long8 : length rates8 ≡ p
   pub long104 : length rates104 ≡ p
-  pub in8 : (j : ℕ) → j < p → InRange 1 mostRate (word rates8 j)
-  pub in104 : (j : ℕ) → j < p → InRange 1 mostRate (word rates104 j)
+  pub in8 : (j : ℕ) → j < p → InRange 1 mostRate (figureAt rates8 j)
+  pub in104 : (j : ℕ) → j < p → InRange 1 mostRate (figureAt rates104 j)
 
 -- the lags name dues
 pub record Lags (p : ℕ) (lags : List ℤ) : Type 0 where
   pub long : length lags ≡ p
-  pub names : (j : ℕ) → j < p → natAbs (word lags j) < dues
+  pub names : (j : ℕ) → j < p → natAbs (figureAt lags j) < dues
 
 -- an account's dues
 pub record EachDueIn (g : View) (a : ℕ) : Type 0 where
@@ -79,14 +79,14 @@ lengths-of prices rates8 rates104 lags p e =
 -- ---- the new words of an account whose row is known
 
 module _ (prices : List ℤ) (s : Shape) (g : View) (a : ℕ) (r : Row prices s g a) where
-  pub fair : (j : ℕ) → j < s .p → Fair (g (productKind j)) (g (lots a j)) (g (book a j)) (word prices j) (word prices (natAbs (g (quote j))))
+  pub fair : (j : ℕ) → j < s .p → Fair (g (productKind j)) (g (lots a j)) (g (book a j)) (figureAt prices j) (figureAt prices (natAbs (g (quote j))))
   fair j h = let c = r .at j h in record { lots-in = c .lots-in; price-in = c .price-in .high; book-in = c .book-in; quoted-in = c .quote-price .high }
 
   added-in : (lags : List ℤ) (d j : ℕ) → j < s .p → natAbs (addedTo prices lags g a d j) ≤ 30000000000000
-  added-in lags d j h = go (eqb (natAbs (word lags j)) d)
+  added-in lags d j h = go (eqb (natAbs (figureAt lags j)) d)
     where
       go : (t : Bool) → natAbs (cond t (difference prices g a j) (pos 0)) ≤ 30000000000000
-      go true = fair-in (g (productKind j)) (g (lots a j)) (g (book a j)) (word prices j) (word prices (natAbs (g (quote j)))) (fair j h)
+      go true = fair-in (g (productKind j)) (g (lots a j)) (g (book a j)) (figureAt prices j) (figureAt prices (natAbs (g (quote j)))) (fair j h)
       go false = omega arith
 
   -- the next due, with what the first j products add
@@ -103,8 +103,8 @@ module _ (prices rates8 rates104 : List ℤ) (s : Shape) (g : View) (a : ℕ) (r
   charge-in : (j : ℕ) → j < s .p → charge prices rates8 rates104 g a j ≤ 500000000000
   charge-in j h =
       let c = r .at j h in
-      let k = rate-in (g (floorMark j)) (word rates8 j) (word rates104 j) (t .in8 j h) (t .in104 j h) in
-      margin-in (g (lots a j)) (word prices (yenOf (g (productKind j)) j (g (principal j)))) (rateOf (g (floorMark j)) (word rates8 j) (word rates104 j)) (c .lots-in) (c .yen-price .high) (k .high)
+      let k = rate-in (g (floorMark j)) (figureAt rates8 j) (figureAt rates104 j) (t .in8 j h) (t .in104 j h) in
+      margin-in (g (lots a j)) (figureAt prices (yenOf (g (productKind j)) j (g (principal j)))) (rateOf (g (floorMark j)) (figureAt rates8 j) (figureAt rates104 j)) (c .lots-in) (c .yen-price .high) (k .high)
 
   -- the margin of the first j products
   pub charges-in : (j : ℕ) → j ≤ s .p → total j (charge prices rates8 rates104 g a) ≤ j * 500000000000
@@ -115,18 +115,18 @@ module _ (prices rates8 rates104 : List ℤ) (s : Shape) (g : View) (a : ℕ) (r
 -- the product j's figures are in range
 abbrev pub InFigures : List ℤ → List ℤ → List ℤ → List ℤ → View → ℕ → Type 0
 InFigures prices rates8 rates104 lags g j =
-    InRange 1 (mostPrice (g (productKind j))) (word prices j) × InRange 1 mostRate (word rates8 j) × InRange 1 mostRate (word rates104 j) × InRange 0 (dues - 1) (word lags j)
+    InRange 1 (mostPrice (g (productKind j))) (figureAt prices j) × InRange 1 mostRate (figureAt rates8 j) × InRange 1 mostRate (figureAt rates104 j) × InRange 0 (dues - 1) (figureAt lags j)
 
 pub figures : (prices rates8 rates104 lags : List ℤ) (g : View) (j : ℕ) → figureOk prices rates8 rates104 lags g j ≡ true → InFigures prices rates8 rates104 lags g j
 figures prices rates8 rates104 lags g j e =
-    let x = between (pos 1) (pos (mostPrice (g (productKind j)))) (word prices j) in let y = between (pos 1) (pos mostRate) (word rates8 j) in
-    let z = between (pos 1) (pos mostRate) (word rates104 j) in let w = between (pos 0) (pos (dues - 1)) (word lags j) in
+    let x = between (pos 1) (pos (mostPrice (g (productKind j)))) (figureAt prices j) in let y = between (pos 1) (pos mostRate) (figureAt rates8 j) in
+    let z = between (pos 1) (pos mostRate) (figureAt rates104 j) in let w = between (pos 0) (pos (dues - 1)) (figureAt lags j) in
     let h = both (x && y && z) w e in let i = both (x && y) z (h .0) in let k = both x y (i .0) in
-    (in-range 1 (mostPrice (g (productKind j))) (word prices j) (k .0), in-range 1 mostRate (word rates8 j) (k .1), in-range 1 mostRate (word rates104 j) (i .1), in-range 0 (dues - 1) (word lags j) (h .1))
+    (in-range 1 (mostPrice (g (productKind j))) (figureAt prices j) (k .0), in-range 1 mostRate (figureAt rates8 j) (k .1), in-range 1 mostRate (figureAt rates104 j) (i .1), in-range 0 (dues - 1) (figureAt lags j) (h .1))
 
 -- a name of a yen product of lower number
 pub lower : (g : View) (j : ℕ) (q : Place) → namesYen g j q ≡ true → natAbs (g q) < j
-lower g j q e = is-below j (g q) (both (isBelow j (g q)) (isYen (g (productKind (natAbs (g q))))) e .0) .high
+lower g j q e = is-one-of j (g q) (both (isOneOf j (g q)) (isYen (g (productKind (natAbs (g q))))) e .0) .high
 
 -- a sound product names products of the ledger
 named-in : (p : ℕ) (g : View) (j : ℕ) → productOk g j ≡ true → j < p → (natAbs (g (quote j)) < p) × (yenOf (g (productKind j)) j (g (principal j)) < p)
@@ -148,7 +148,7 @@ module _ (prices rates8 rates104 lags : List ℤ) (s : Shape) (g : View) (ok : F
   pub figure : (j : ℕ) → j < s .p → InFigures prices rates8 rates104 lags g j
   figure j h = figures prices rates8 rates104 lags g j (all-at (s .p) (figureOk prices rates8 rates104 lags g) fig j h)
 
-  any-price : (j : ℕ) → j < s .p → InRange 1 5000000 (word prices j)
+  any-price : (j : ℕ) → j < s .p → InRange 1 5000000 (figureAt prices j)
   any-price j h = let f = figure j h .0 in record { low = f .low; high = omega (arith, price-most (g (productKind j))); nat = f .nat }
 
   pub rates-of : length rates8 ≡ s .p → length rates104 ≡ s .p → Rates (s .p) rates8 rates104

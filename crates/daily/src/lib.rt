@@ -5,13 +5,14 @@ ghost use Prim.Native.Nat.{_<_, _≤_};
 ghost use lib.IntN.{pos, natAbs};
 ghost use lib.ListN.{length};
 ghost use Rattle.whole.specs.Number.{between};
-ghost use Rattle.whole.specs.Below.{all, listed};
+ghost use Rattle.whole.specs.Counting.{all, listed};
 ghost use Rattle.rules.specs.Sizes.{mostPrice, mostLots};
 ghost use Rattle.places.specs.Place.{get, dues, productKind, lots};
 ghost use Rattle.places.specs.PlaceLaws.{Sized};
 ghost use Rattle.places.specs.ByAccount.{byAccount};
 ghost use Rattle.soundness.specs.Sound.{productAt};
-ghost use Rattle.daily.specs.Figures as F;
+ghost use Rattle.whole.specs.Counting.{figureAt};
+ghost use Rattle.daily.specs.DailyFigures as F;
 ghost use Rattle.daily.specs.Ranges.{Lengths, Rates, Lags, Row, EachDueIn};
 use places::Shape;
 use rules::Product;
@@ -38,9 +39,9 @@ pub fn lengths_ok(p: usize, prices: &[i64], rates8: &[i64], rates104: &[i64], la
 
 fn word_between(list: &[i64], j: usize, lo: i64, hi: i64) -> bool
     requires { ⌜ j < length (now list) ⌝ }
-    ensures { λ r. ⌜ r ≡ between lo hi (F.word (now (list .entry)) j) ⌝ }
+    ensures { λ r. ⌜ r ≡ between lo hi (figureAt (now (list .entry)) j) ⌝ }
 {
-    whole::within(list[j], lo, hi)
+    whole::between(list[j], lo, hi)
 }
 
 // The highest price of the product j: a yen price and a cross price have ranges of their own.
@@ -114,7 +115,7 @@ fn difference(words: &[i64], s: Shape, a: usize, j: usize, prices: &[i64]) -> i6
     let kind = places::prod_word(words, s, j, places::PRODUCT_KIND);
     let lots = places::held_word(words, s, a, j, places::LOTS);
     let book = places::held_word(words, s, a, j, places::BOOK);
-    let quote = whole::size(places::prod_word(words, s, j, places::QUOTE)) as usize;
+    let quote = whole::nat_abs(places::prod_word(words, s, j, places::QUOTE)) as usize;
     rules::products::difference_of(kind, lots, book, prices[j], prices[quote])
 }
 
@@ -155,7 +156,7 @@ fn add_differences(words: &[i64], s: Shape, a: usize, prices: &[i64], lags: &[i6
     let p = s.p;
     let mut j = 0;
     while j < p {
-        let d = whole::size(lags[j]) as usize;
+        let d = whole::nat_abs(lags[j]) as usize;
         let more = difference(words, s, a, j, prices);
         new[d] = new[d] + more;
         j += 1;
@@ -245,7 +246,7 @@ pub fn new_book(words: &[i64], s: Shape, a: usize, j: usize, prices: &[i64]) -> 
     requires { ⌜ Sized s (now words) ⌝ }
     requires { ⌜ (length (now prices) ≡ s .p) × (a < s .n) × (j < s .p) ⌝ }
     requires { ⌜ natAbs (get byAccount s (now words) (lots a j)) ≤ mostLots ⌝ }
-    requires { ⌜ natAbs (F.word (now prices) j) ≤ 5000000 ⌝ }
+    requires { ⌜ natAbs (figureAt (now prices) j) ≤ 5000000 ⌝ }
     ensures { λ r. ⌜ r ≡ F.newBook (now (prices .entry)) (get byAccount s (now (words .entry))) a j ⌝ }
 {
     places::held_word(words, s, a, j, places::LOTS) * prices[j]

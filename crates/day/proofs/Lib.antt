@@ -1,3 +1,3 @@
-pub mod RunLaws
+pub mod CallsPartLaws
 pub mod SheetLaws
 pub mod StartLaws

@@ -15,9 +15,9 @@ use Rattle.lines.specs.Lines.{lost, longest}
 use Rattle.lines.specs.Print.{numbersLine, badLine}
 use Rattle.dayfile.proofs.ContentsLaws.{contents-modest}
 use Rattle.lines.proofs.PrintLaws.{line-length}
-use Rattle.dayfile.specs.Calls.{callAt, callsAt, Call}
+use Rattle.dayfile.specs.CallLines.{callAt, callsAt, Call}
 use Rattle.dayfile.specs.Day.{startOf, Day, bodiesOf, dayOf}
-use Rattle.dayfile.specs.Inside.{Modest, Bodied}
+use Rattle.dayfile.specs.InsideDayfile.{Modest, Bodied}
 use Rattle.dayfile.specs.Table.{contentsOf}
 use Rattle.dayfile.specs.Words.{lengthOf}
 use Rattle.calls.specs.Ledger.{LedgerRules}

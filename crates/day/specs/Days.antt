@@ -3,9 +3,9 @@
 use mathlib.Core.Path.{_≡_, refl}
 use mathlib.Core.List.{List}
 use Prim.Native.Nat.{ℕ}
-use Rattle.whole.specs.Number.{minZ, maxZ, below, floorDiv}
+use Rattle.whole.specs.Number.{minZ, maxZ, takesAway, floorDiv}
 use Rattle.rules.specs.Account.{lgValue, depositOf, requiredOf, firstShortfall, nextDayNeed, secondShortfall, excessOne, excessTwo, limitOf, accountOk}
-use Rattle.rules.specs.Calls.{deposited, withdrawn, guaranteed, standingOf}
+use Rattle.rules.specs.AccountCalls.{deposited, withdrawn, guaranteed, standingOf}
 use Rattle.places.specs.Act.{soundBy, performBy}
 use Rattle.places.specs.ByAccount.{byAccount}
 use Rattle.lines.specs.Bytes.{bytes}
@@ -14,10 +14,10 @@ use Rattle.lines.specs.Lines.{past, fieldAt, figuresAt, kindAt, lines}
 use Rattle.lines.specs.Print.{digits, decimal, numbersLine, badLine}
 use Rattle.dayfile.specs.Table.{countLine, contentsOf}
 use Rattle.dayfile.specs.Sections.{positionAt, productsFrom, accountsFrom, positionsFrom}
-use Rattle.dayfile.specs.Calls.{figuresOf, callAt, callOf, callsFrom, callsAt}
+use Rattle.dayfile.specs.CallLines.{figuresOf, callAt, callOf, callsFrom, callsAt}
 use Rattle.dayfile.specs.Day.{bodiesOf}
 use Rattle.rules.specs.Product.{rateOf, differenceOf}
-use Rattle.daily.specs.Figures.{newDue, newMargin}
+use Rattle.daily.specs.DailyFigures.{newDue, newMargin}
 use Rattle.closing.specs.Close.{accountPuts, closePuts}
 use Rattle.calls.specs.Ledger.{theLedger}
 use Rattle.day.specs.Sheet.{accountsPart, callsPart, goodSheet, daySheet, sheetOf}
@@ -30,7 +30,7 @@ pub sheet : List ℕ
 sheet = bytes "FXSHEET\n11 50000\n0 0\n0 0\n0 190000\n0 1\n11 100000\n0 190000 0 0 0 190000 0 0\n1 100000 0 0 0 100000 0 0\nHOUSE 0\n"
 
 pub the-sheet : sheetOf theLedger text ≡ sheet
-unfolding text sheet numberAt past fieldAt figuresAt lines countLine contentsOf kindAt positionAt productsFrom accountsFrom positionsFrom callsFrom figuresOf callAt callOf callsAt bodiesOf digits decimal numbersLine badLine accountsPart callsPart goodSheet daySheet sheetOf theLedger soundBy performBy byAccount accountOk withdrawn standingOf limitOf excessOne excessTwo firstShortfall secondShortfall nextDayNeed depositOf requiredOf lgValue minZ maxZ below floorDiv
+unfolding text sheet numberAt past fieldAt figuresAt lines countLine contentsOf kindAt positionAt productsFrom accountsFrom positionsFrom callsFrom figuresOf callAt callOf callsAt bodiesOf digits decimal numbersLine badLine accountsPart callsPart goodSheet daySheet sheetOf theLedger soundBy performBy byAccount accountOk withdrawn standingOf limitOf excessOne excessTwo firstShortfall secondShortfall nextDayNeed depositOf requiredOf lgValue minZ maxZ takesAway floorDiv
 the-sheet = refl
 
 -- two brokers, two providers, a cross: trades, a run with requests between its steps, two closes, a second run
@@ -41,5 +41,5 @@ pub fullSheet : List ℕ
 fullSheet = bytes "FXSHEET\n0 1750000\n0 990000\n11 1719700\n0 0\n0 0\n0 0\n6 0\n0 0\n0 8900000\n0 0\n0 1800000\n0 1\n0 5000001\n0 2\n0 9000000\n0 3\n7 0\n0 0\n0 0\n0 1500000\n0 0\n0 1\n6 0\n0 2\n0 3\n8 0\n0 0\n0 1749990\n0 1550000 -1200 0 0 1398600 0 0\n1 1749990 839 2967 -1953 1652346 0 0\n2 9000000 660 490 0 8772313 0 0\n3 4900001 -300 -3458 1952 4815657 0 0\nHOUSE 0\n"
 
 pub the-full-sheet : sheetOf theLedger fullText ≡ fullSheet
-unfolding fullText fullSheet numberAt past fieldAt figuresAt lines countLine contentsOf kindAt positionAt productsFrom accountsFrom positionsFrom callsFrom figuresOf callAt callOf callsAt bodiesOf digits decimal numbersLine badLine accountsPart callsPart goodSheet daySheet sheetOf theLedger soundBy performBy byAccount accountOk withdrawn standingOf limitOf excessOne excessTwo firstShortfall secondShortfall nextDayNeed depositOf requiredOf lgValue minZ maxZ below floorDiv deposited guaranteed rateOf differenceOf newDue newMargin accountPuts closePuts
+unfolding fullText fullSheet numberAt past fieldAt figuresAt lines countLine contentsOf kindAt positionAt productsFrom accountsFrom positionsFrom callsFrom figuresOf callAt callOf callsAt bodiesOf digits decimal numbersLine badLine accountsPart callsPart goodSheet daySheet sheetOf theLedger soundBy performBy byAccount accountOk withdrawn standingOf limitOf excessOne excessTwo firstShortfall secondShortfall nextDayNeed depositOf requiredOf lgValue minZ maxZ takesAway floorDiv deposited guaranteed rateOf differenceOf newDue newMargin accountPuts closePuts
 the-full-sheet = refl

@@ -8,7 +8,7 @@ use lib.ListN.{length, getD, drop}
 use Rattle.lines.specs.Bytes.{bytes}
 use Rattle.lines.specs.Lines.{longest, lost}
 use Rattle.lines.specs.Print.{numbersLine, badLine}
-use Rattle.dayfile.specs.Calls.{Call}
+use Rattle.dayfile.specs.CallLines.{Call}
 use Rattle.dayfile.specs.Day.{Day, dayOf}
 use Rattle.dayfile.specs.Words.{accountWord}
 use Rattle.rules.specs.declared.Reply.{Reply}

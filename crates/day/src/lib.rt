@@ -12,11 +12,11 @@ ghost use lib.Seq.{sets};
 ghost use Rattle.places.specs.ByAccount.{byAccount};
 ghost use Rattle.soundness.specs.SoundLaws.{Ledger};
 ghost use Rattle.lines.specs.Print.{numbersLine, badLine};
-ghost use Rattle.dayfile.specs.Calls.{callsAt};
+ghost use Rattle.dayfile.specs.CallLines.{callsAt};
 ghost use Rattle.dayfile.specs.Day.{bodiesOf, dayOf};
-ghost use Rattle.dayfile.specs.Inside.{Modest};
+ghost use Rattle.dayfile.specs.InsideDayfile.{Modest};
 ghost use Rattle.dayfile.specs.Words.{accountWord, lengthOf};
-ghost use Rattle.day.specs.Inside.{Called};
+ghost use Rattle.day.specs.InsideDay.{Turned};
 ghost use Rattle.calls.specs.Ledger.{theLedger};
 ghost use Rattle.day.specs.Sheet.{replyLine, accountNumbers, housePart, endPart, callsPart, daySheet, sheetOf, answerOf};
 
@@ -106,7 +106,7 @@ fn do_call(
     put: usize,
 ) -> Turn
     requires { ⌜ Ledger byAccount s (now words) ⌝ ∗ ⌜ 64 ≤ length (now figures) ⌝ ∗ ⌜ put + 44 ≤ length (now out) ⌝ }
-    ensures { λ r. ⌜ Called theLedger (now (text .entry)) (s .p) at (now (words .entry)) (now (out .entry)) put r (now (words .exit)) (now (out .exit)) ⌝ }
+    ensures { λ r. ⌜ Turned theLedger (now (text .entry)) (s .p) at (now (words .entry)) (now (out .entry)) put r (now (words .exit)) (now (out .exit)) ⌝ }
 {
     let p = s.p;
     let letter = lines::byte_at(text, at);

@@ -6,13 +6,13 @@ use Prim.Native.Nat.{ℕ, zero, suc, _+_, _≤_}
 use native.Mathlib.Omega.{arith}
 use lib.Dec.{eqb}
 use lib.IntN.{ℤ}
-use Rattle.lines.specs.Lines.{lost, Line, Stand, placeOf, onward, lines}
-use Rattle.dayfile.specs.Calls.{callsFrom}
+use Rattle.lines.specs.Lines.{lost, Line, Stand, lineStartOf, onward, lines}
+use Rattle.dayfile.specs.CallLines.{callsFrom}
 use Rattle.dayfile.specs.Day.{ended, startOf, bodiesOf}
-use Rattle.dayfile.specs.Inside.{Bodied}
+use Rattle.dayfile.specs.InsideDayfile.{Bodied}
 use Rattle.dayfile.specs.Sections.{noMarks, productsFrom, accountsFrom, Stated, positionsFrom}
 use Rattle.dayfile.specs.Words.{freshWords}
-use Rattle.lines.specs.declared.Place.{Place}
+use Rattle.lines.specs.declared.LineStart.{LineStart}
 use Rattle.dayfile.specs.declared.Contents.{Contents}
 
 module _ {M : Type 0} (read : ℕ → ℕ → M → Line M) where
@@ -49,11 +49,11 @@ module _ (text : List ℕ) (c : Contents) where
       let accounts = accountsFrom text (products .at) (products .line) p n (products .held) in
       omega (arith, products-line text (c .at) (c .line) p (freshWords n p), accounts-line text (products .at) (products .line) p n (products .held), positions-line text (accounts .at) (accounts .line) n p (c .positions) (record { words = accounts .held; marks = noMarks }))
 
-  module _ (w0 w1 w2 w3 : List ℤ) (m0 : List ℕ) (A B D : Place) (e0 : w0 ≡ freshWords (c .accounts) (c .products)) (em : m0 ≡ noMarks) (eA : A ≡ placeOf (productsFrom text (c .at) (c .line) (c .products) w0)) (e1 : w1 ≡ productsFrom text (c .at) (c .line) (c .products) w0 .held) (eB : B ≡ placeOf (accountsFrom text (A .at) (A .line) (c .products) (c .accounts) w1)) (e2 : w2 ≡ accountsFrom text (A .at) (A .line) (c .products) (c .accounts) w1 .held) (eD : D ≡ placeOf (positionsFrom text (B .at) (B .line) (c .accounts) (c .products) (c .positions) (record { words = w2; marks = m0 }))) (e3 : w3 ≡ positionsFrom text (B .at) (B .line) (c .accounts) (c .products) (c .positions) (record { words = w2; marks = m0 }) .held .words) where
-    pub start-is : (D ≡ placeOf (startOf text c)) × (w3 ≡ startOf text c .held .words)
+  module _ (w0 w1 w2 w3 : List ℤ) (m0 : List ℕ) (A B D : LineStart) (e0 : w0 ≡ freshWords (c .accounts) (c .products)) (em : m0 ≡ noMarks) (eA : A ≡ lineStartOf (productsFrom text (c .at) (c .line) (c .products) w0)) (e1 : w1 ≡ productsFrom text (c .at) (c .line) (c .products) w0 .held) (eB : B ≡ lineStartOf (accountsFrom text (A .at) (A .line) (c .products) (c .accounts) w1)) (e2 : w2 ≡ accountsFrom text (A .at) (A .line) (c .products) (c .accounts) w1 .held) (eD : D ≡ lineStartOf (positionsFrom text (B .at) (B .line) (c .accounts) (c .products) (c .positions) (record { words = w2; marks = m0 }))) (e3 : w3 ≡ positionsFrom text (B .at) (B .line) (c .accounts) (c .products) (c .positions) (record { words = w2; marks = m0 }) .held .words) where
+    pub start-is : (D ≡ lineStartOf (startOf text c)) × (w3 ≡ startOf text c .held .words)
     start-is = (rw (eD, e2, eB, e1, eA, e0, em) refl, rw (e3, e2, eB, e1, eA, e0, em) refl)
 
   -- and the calls
-  pub bodies-are : (w : List ℤ) (D E : Place) (end : ℕ) → D ≡ placeOf (startOf text c) → w ≡ startOf text c .held .words → E ≡ placeOf (callsFrom text (D .at) (D .line) (c .products) (c .calls)) → end ≡ ended text (E .at) → Bodied text c (record { at = end; line = E .line; «calls_at» = D .at }) w
+  pub bodies-are : (w : List ℤ) (D E : LineStart) (end : ℕ) → D ≡ lineStartOf (startOf text c) → w ≡ startOf text c .held .words → E ≡ lineStartOf (callsFrom text (D .at) (D .line) (c .products) (c .calls)) → end ≡ ended text (E .at) → Bodied text c (record { at = end; line = E .line; «calls_at» = D .at }) w
   unfolding bodiesOf
   bodies-are w D E end d e f g = record { at-is = rw (g, f, d) refl; line-is = rw (f, d) refl; calls-at-is = rw d refl; words-are = e }

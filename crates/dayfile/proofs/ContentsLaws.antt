@@ -8,7 +8,7 @@ use lib.Dec.{eqb}
 use lib.ListN.{length}
 use Rattle.lines.specs.Bytes.{bytes}
 use Rattle.lines.specs.Lines.{lost, lineFeed, past, fieldAt, firstLost}
-use Rattle.dayfile.specs.Inside.{Modest}
+use Rattle.dayfile.specs.InsideDayfile.{Modest}
 use Rattle.dayfile.specs.Table.{mostProducts, mostAccounts, mostPositions, mostCalls, countLine, pastHeader, productsCount, accountsCount, positionsCount, callsCount, pastEnd, tableOf, contentsOf}
 use Rattle.dayfile.specs.declared.Counted.{Counted}
 use Rattle.dayfile.specs.declared.Contents.{Contents}

@@ -12,8 +12,9 @@ use lib.IntN.{ℤ, pos, negsuc, natAbs}
 use lib.Signed.{ltZ}
 use lib.ListN.{length, drop, getD, List·getD-eq-default}
 use lib.Seq.{getD-drop, drop-drop}
+use Rattle.whole.specs.Counting.{figureAt}
 use Rattle.lines.specs.Bytes.{bytes}
-use Rattle.dayfile.specs.Calls.{gap, figuresOf, mostFigures, figure, column}
+use Rattle.dayfile.specs.CallLines.{gap, figuresOf, mostFigures, column}
 use Rattle.dayfile.specs.Sections.{isOneOf}
 use Rattle.dayfile.specs.Table.{noCount, countOf}
 use Rattle.dayfile.specs.Words.{width, accountWord, lengthOf, positionWord}
@@ -94,7 +95,7 @@ pub position-inside : (n p a j : ℕ) → a < n → j < p → positionWord p a j
 position-inside n p a j ha hj = omega (arith, account-inside p a n ha)
 
 -- ---- a close's columns
-pub column-more : (v : List ℤ) (k j left : ℕ) → 0 < left → column k left (drop (j * 4) v) ≡ figure v (j * 4 + k) ∷ column k (left - 1) (drop ((j + 1) * 4) v)
+pub column-more : (v : List ℤ) (k j left : ℕ) → 0 < left → column k left (drop (j * 4) v) ≡ figureAt v (j * 4 + k) ∷ column k (left - 1) (drop ((j + 1) * 4) v)
 column-more v k j zero h = absurd (not-suc-le-zero h)
 column-more v k j (suc n) h =
     let e : suc n - 1 ≡ n = omega arith in

@@ -10,7 +10,7 @@ use lib.ListN.{getD, set, replicate, length-set, length-replicate}
 use lib.Seq.{sets, getD-set-same, getD-set-other}
 use Rattle.lines.specs.Lines.{lost, space, lineFeed, fieldAt, Line, Stand, onward, lines}
 use Rattle.dayfile.specs.Day.{bodiesOf}
-use Rattle.dayfile.specs.Sections.{productAt, accountAt, productLine, accountLine, productsFrom, accountsFrom, Stated, isOneOf, stated, positionAt, positionLine, positionsFrom}
+use Rattle.dayfile.specs.Sections.{productFigures, accountFigures, productLine, accountLine, productsFrom, accountsFrom, Stated, isOneOf, stated, positionAt, positionLine, positionsFrom}
 use Rattle.dayfile.specs.Words.{productWord, accountWord, positionWord, lengthOf, freshWords}
 use Rattle.dayfile.specs.declared.Contents.{Contents}
 
@@ -79,11 +79,11 @@ module _ (n p : ℕ) where
 
   head-products : (text : List ℕ) (at line : ℕ) → Head n p (productsFrom text at line p (freshWords n p) .held)
   unfolding productsFrom
-  head-products text at line = lines-held (productLine text) (Head n p) (λ i at h d. head-sets (productAt text at .values) h (productWord i) (omega arith) d) p 0 _ head-fresh
+  head-products text at line = lines-held (productLine text) (Head n p) (λ i at h d. head-sets (productFigures text at .values) h (productWord i) (omega arith) d) p 0 _ head-fresh
 
   head-accounts : (text : List ℕ) (at line : ℕ) (words : List ℤ) → Head n p words → Head n p (accountsFrom text at line p n words .held)
   unfolding accountsFrom
-  head-accounts text at line words d = lines-held (accountLine text p) (Head n p) (λ i at h e. head-sets (accountAt text at .values) h (accountWord p i) (omega arith) e) n 0 _ d
+  head-accounts text at line words d = lines-held (accountLine text p) (Head n p) (λ i at h e. head-sets (accountFigures text at .values) h (accountWord p i) (omega arith) e) n 0 _ d
 
   head-positions : (text : List ℕ) (at line m : ℕ) (s : Stated) → Head n p (s .words) → Head n p (positionsFrom text at line n p m s .held .words)
   unfolding positionsFrom

@@ -1,6 +1,6 @@
 -- Laws: of the ledger's words, of counts and of calls (`DayLaws`), of a position's line (`PositionLaws`), of the table of contents
 -- (`ContentsLaws`), of the bodies (`BodyLaws`) and their first words (`HeadLaws`). Who is lost stays lost (`LostLaws`).
--- For the walks over the view: its type (`View`), a call (`Called`), a thin function (`Thin`), the calls in a row above them (`Reading`).
+-- For the walks over the view: its type (`View`), a call (`CallStep`), a thin function (`Thin`), the calls in a row above them (`Reading`).
 pub mod DayLaws
 pub mod PositionLaws
 pub mod ContentsLaws
@@ -8,6 +8,6 @@ pub mod BodyLaws
 pub mod HeadLaws
 pub mod LostLaws
 pub mod View
-pub mod Called
+pub mod CallStep
 pub mod Thin
 pub mod Reading

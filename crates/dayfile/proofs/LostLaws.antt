@@ -4,9 +4,9 @@ use mathlib.Core.List.{List, _∷_}
 use Prim.Native.Nat.{ℕ, zero, suc, _≤_}
 use native.Mathlib.Omega.{arith}
 use lib.ListN.{length, drop-of-length-le, List·getD-eq-default}
-use Rattle.lines.specs.Lines.{longest, lost, past, noField, closed, fieldAt, closing, figuresAt}
+use Rattle.lines.specs.Lines.{longest, lost, past, noField, closedField, fieldAt, closeOf, figuresAt}
 use Rattle.lines.proofs.TextLaws.{numeral-none}
-use Rattle.dayfile.specs.Calls.{figuresOf, callAt}
+use Rattle.dayfile.specs.CallLines.{figuresOf, callAt}
 
 module _ (text : List ℕ) (short : length text ≤ longest) where
   pub past-lost : (b : ℕ) (w : List ℕ) → past text lost (b ∷ w) ≡ lost
@@ -15,12 +15,12 @@ module _ (text : List ℕ) (short : length text ≤ longest) where
 
   pub field-lost : (close : ℕ) → fieldAt text lost close ≡ noField
   unfolding fieldAt
-  field-lost close = ap (closed text close) (sym (numeral-none text lost (omega arith)))
+  field-lost close = ap (closedField text close) (sym (numeral-none text lost (omega arith)))
 
   pub figures-lost : (k : ℕ) → figuresAt text lost k .next ≡ lost
   unfolding figuresAt
   figures-lost zero = refl
-  figures-lost (suc k) = rw (field-lost (closing k)) (figures-lost k)
+  figures-lost (suc k) = rw (field-lost (closeOf k)) (figures-lost k)
 
   pub call-lost : (p : ℕ) → callAt text p lost .next ≡ lost
   unfolding callAt figuresOf

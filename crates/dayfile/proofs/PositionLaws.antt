@@ -5,7 +5,7 @@ use mathlib.Core.List.{List}
 use Prim.Native.Nat.{ℕ}
 use lib.IntN.{ℤ, natAbs}
 use Rattle.lines.specs.Lines.{lost, fieldAt}
-use Rattle.dayfile.specs.Inside.{Positioned}
+use Rattle.dayfile.specs.InsideDayfile.{Positioned}
 use Rattle.dayfile.specs.Sections.{isOneOf, Stated, stated, positionAt}
 use Rattle.lines.specs.declared.Field.{Field}
 

@@ -27,7 +27,7 @@ use denote.Triple.Entry.{alive}
 use denote.Triple.Statement.{Contract, Triple}
 use Rattle.dayfile.specs.declared.reader.Reader.{Reader}
 use Rattle.dayfile.proofs.View.{view, decl, laws, held, copied}
-use Rattle.dayfile.proofs.Called.{Of, called-low}
+use Rattle.dayfile.proofs.CallStep.{Of, called-low}
 use Rattle.dayfile.proofs.Thin.{Says, thin-ended, thin-clauses}
 use Rattle.dayfile.proofs.reader.Reader.moved as mv
 

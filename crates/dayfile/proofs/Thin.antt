@@ -35,7 +35,7 @@ use denote.Triple.Walked.{says, Stays, stay-none, walkOf, goes-none, Walks, ends
 use denote.Exit.{yes}
 use denote.Triple.Clauses.{Ended, Clauses, closing}
 use Rattle.dayfile.specs.declared.reader.Reader.{Reader}
-use Rattle.dayfile.proofs.Called.{Of, called}
+use Rattle.dayfile.proofs.CallStep.{Of, called}
 use Rattle.dayfile.proofs.View.{view, text, decl, laws, low, held, copied, shown}
 use Rattle.dayfile.proofs.reader.Reader.Laws as T′
 

@@ -6,7 +6,7 @@ use lib.Dec.{eqb}
 use lib.IntN.{ℤ}
 use lib.ListN.{length}
 use Rattle.lines.specs.Lines.{lost, Stand}
-use Rattle.dayfile.specs.Calls.{Call, callsFrom, callsAt}
+use Rattle.dayfile.specs.CallLines.{Call, callsFrom, callsAt}
 use Rattle.dayfile.specs.Sections.{productsFrom, accountsFrom, noMarks, Stated, positionsFrom}
 use Rattle.dayfile.specs.Table.{contentsOf}
 use Rattle.dayfile.specs.Words.{freshWords}

@@ -8,27 +8,27 @@ use lib.IntN.{ℤ, pos, negsuc, natAbs}
 use lib.ListN.{getD, replicate, set}
 use lib.Seq.{sets}
 use Rattle.lines.specs.Bytes.{bytes}
-use Rattle.lines.specs.Lines.{space, lineFeed, lost, fieldAt, Figures, kindAt, Line, Stand, lines}
+use Rattle.lines.specs.Lines.{space, lineFeed, lost, fieldAt, FiguresRead, kindAt, Line, Stand, lines}
 use Rattle.dayfile.specs.Words.{productWord, accountWord, positionWord}
 
 -- `Y mark price` or `X mark price principal quote`
-abbrev pub productAt : (text : List ℕ) (at : ℕ) → Figures
-productAt text at = kindAt text at (bytes "Y ") 2 (bytes "X ") 4
+abbrev pub productFigures : (text : List ℕ) (at : ℕ) → FiguresRead
+productFigures text at = kindAt text at (bytes "Y ") 2 (bytes "X ") 4
 
 -- `F` or `L`, then its seven figures
-abbrev pub accountAt : (text : List ℕ) (at : ℕ) → Figures
-accountAt text at = kindAt text at (bytes "F ") 7 (bytes "L ") 7
+abbrev pub accountFigures : (text : List ℕ) (at : ℕ) → FiguresRead
+accountFigures text at = kindAt text at (bytes "F ") 7 (bytes "L ") 7
 
 -- the words with a line's figures written from a base on
-abbrev pub written : List ℤ → ℕ → Figures → Line (List ℤ)
+abbrev pub written : List ℤ → ℕ → FiguresRead → Line (List ℤ)
 written words base f = record { next = f .next; held = sets words base (f .values) }
 
 -- the line of product j, and of account a of a ledger of p products
 abbrev pub productLine : (text : List ℕ) (j at : ℕ) (words : List ℤ) → Line (List ℤ)
-productLine text j at words = written words (productWord j) (productAt text at)
+productLine text j at words = written words (productWord j) (productFigures text at)
 
 abbrev pub accountLine : (text : List ℕ) (p a at : ℕ) (words : List ℤ) → Line (List ℤ)
-accountLine text p a at words = written words (accountWord p a) (accountAt text at)
+accountLine text p a at words = written words (accountWord p a) (accountFigures text at)
 
 -- the sections of products and accounts, from a place and the number of its line
 unfoldable pub productsFrom : (text : List ℕ) (at line count : ℕ) (words : List ℤ) → Stand (List ℤ)

@@ -5,7 +5,7 @@ pub mod reader;
 mod sections;
 
 use lines::LOST;
-use lines::Place;
+use lines::LineStart;
 use reader::Reader;
 ghost use mathlib.Core.Path.{_≡_};
 ghost use mathlib.Core.List.{_∷_, []};
@@ -13,10 +13,11 @@ ghost use Prim.Native.Nat.{_+_, _<_, _≤_};
 ghost use lib.IntN.{pos};
 ghost use lib.ListN.{length, replicate};
 ghost use lib.Seq.{sets};
-ghost use Rattle.lines.specs.Lines.{past, placeOf, firstLost};
-ghost use Rattle.dayfile.specs.Calls.{figuresOf, gap, callAt, callsFrom, figure, column};
+ghost use Rattle.whole.specs.Counting.{figureAt};
+ghost use Rattle.lines.specs.Lines.{past, lineStartOf, firstLost};
+ghost use Rattle.dayfile.specs.CallLines.{figuresOf, gap, callAt, callsFrom, column};
 ghost use Rattle.dayfile.specs.Day.{ended, startOf};
-ghost use Rattle.dayfile.specs.Inside.{givenOf, Modest, Bodied};
+ghost use Rattle.dayfile.specs.InsideDayfile.{givenOf, Modest, Bodied};
 ghost use Rattle.dayfile.specs.Sections.{isOneOf};
 ghost use Rattle.dayfile.specs.Table.{tableOf, contentsOf};
 ghost use Rattle.dayfile.specs.Words.{lengthOf};
@@ -163,9 +164,9 @@ fn calls(
     count: usize,
     p: usize,
     figures: &mut [i64],
-) -> Place
+) -> LineStart
     requires { ⌜ first + count < 18446744073709551616 ⌝ ∗ ⌜ p ≤ 16 ⌝ ∗ ⌜ 64 ≤ length (now figures) ⌝ }
-    ensures { λ r. ⌜ r ≡ placeOf (callsFrom (now (text .entry)) from first p count) ⌝ }
+    ensures { λ r. ⌜ r ≡ lineStartOf (callsFrom (now (text .entry)) from first p count) ⌝ }
 {
     let mut at = from;
     let mut line = first;
@@ -173,13 +174,13 @@ fn calls(
     while i < count {
         let next = call_line(text, p, at, figures);
         if next == LOST {
-            return Place { at: next, line };
+            return LineStart { at: next, line };
         }
         at = next;
         line += 1;
         i += 1;
     }
-    Place { at, line }
+    LineStart { at, line }
 }
 
 // ---- the bodies
@@ -191,7 +192,7 @@ pub fn is_one_of(v: i64, n: usize) -> bool
     if v < 0 {
         return false;
     }
-    let k = whole::size(v) as usize;
+    let k = whole::nat_abs(v) as usize;
     if k < n {
         return true;
     }
@@ -206,9 +207,9 @@ fn end_of(text: &[u8], at: usize) -> usize
 }
 
 // Products, accounts and positions, into words that are all 0.
-fn start_into(text: &[u8], c: Contents, words: &mut [i64]) -> Place
+fn start_into(text: &[u8], c: Contents, words: &mut [i64]) -> LineStart
     requires { ⌜ Modest c ⌝ ∗ ⌜ now words ≡ replicate (lengthOf (c .accounts) (c .products)) (pos 0) ⌝ }
-    ensures { λ r. ⌜ (r ≡ placeOf (startOf (now (text .entry)) c)) × (now (words .exit) ≡ startOf (now (text .entry)) c .held .words) ⌝ }
+    ensures { λ r. ⌜ (r ≡ lineStartOf (startOf (now (text .entry)) c)) × (now (words .exit) ≡ startOf (now (text .entry)) c .held .words) ⌝ }
 {
     let n = c.accounts;
     let p = c.products;
@@ -264,7 +265,7 @@ pub fn given_of(p: usize, letter: u8) -> usize
 
 // A figure of a call, and 0 past the last.
 pub fn figure_at(figures: &[i64], i: usize) -> i64
-    ensures { λ r. ⌜ r ≡ figure (now (figures .entry)) i ⌝ }
+    ensures { λ r. ⌜ r ≡ figureAt (now (figures .entry)) i ⌝ }
 {
     if i < figures.len() {
         return figures[i];

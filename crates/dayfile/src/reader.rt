@@ -19,7 +19,7 @@ fn count_line(text: &[u8], at: usize, word: &[u8], low: usize, high: usize) -> C
             next: LOST,
         };
     }
-    let k = whole::size(v) as usize;
+    let k = whole::nat_abs(v) as usize;
     if k < low {
         return Counted {
             count: 0,

@@ -2,20 +2,20 @@
 // into the ledger's words, up to the first bad line.
 use super::is_one_of;
 use lines::LOST;
-use lines::Place;
+use lines::LineStart;
 ghost use mathlib.Core.Path.{_≡_};
 ghost use Prim.Native.Nat.{_+_, _*_, _<_, _≤_};
 ghost use lib.ListN.{length};
 ghost use lib.Seq.{sets};
-ghost use Rattle.lines.specs.Lines.{placeOf};
-ghost use Rattle.dayfile.specs.Inside.{Statement, Positioned};
-ghost use Rattle.dayfile.specs.Sections.{productAt, accountAt, productsFrom, accountsFrom, positionAt, positionsFrom};
+ghost use Rattle.lines.specs.Lines.{lineStartOf};
+ghost use Rattle.dayfile.specs.InsideDayfile.{Statement, Positioned};
+ghost use Rattle.dayfile.specs.Sections.{productFigures, accountFigures, productsFrom, accountsFrom, positionAt, positionsFrom};
 ghost use Rattle.dayfile.specs.Words.{productWord, accountWord, lengthOf, positionWord};
 
 // A product's line: `Y mark price` or `X mark price principal quote`.
 fn product_line(text: &[u8], at: usize, words: &mut [i64], base: usize) -> usize
     requires { ⌜ base + 5 ≤ length (now words) ⌝ }
-    ensures { λ r. ⌜ (r ≡ productAt (now (text .entry)) at .next) × (now (words .exit) ≡ sets (now (words .entry)) base (productAt (now (text .entry)) at .values)) ⌝ }
+    ensures { λ r. ⌜ (r ≡ productFigures (now (text .entry)) at .next) × (now (words .exit) ≡ sets (now (words .entry)) base (productFigures (now (text .entry)) at .values)) ⌝ }
 {
     lines::kind_line(text, at, b"Y ", 2, b"X ", 4, words, base)
 }
@@ -23,15 +23,21 @@ fn product_line(text: &[u8], at: usize, words: &mut [i64], base: usize) -> usize
 // An account's line: `F` or `L`, and its seven figures.
 fn account_line(text: &[u8], at: usize, words: &mut [i64], base: usize) -> usize
     requires { ⌜ base + 8 ≤ length (now words) ⌝ }
-    ensures { λ r. ⌜ (r ≡ accountAt (now (text .entry)) at .next) × (now (words .exit) ≡ sets (now (words .entry)) base (accountAt (now (text .entry)) at .values)) ⌝ }
+    ensures { λ r. ⌜ (r ≡ accountFigures (now (text .entry)) at .next) × (now (words .exit) ≡ sets (now (words .entry)) base (accountFigures (now (text .entry)) at .values)) ⌝ }
 {
     lines::kind_line(text, at, b"F ", 7, b"L ", 7, words, base)
 }
 
 // The products' lines, up to the first bad one.
-pub fn products(text: &[u8], from: usize, first: usize, count: usize, words: &mut [i64]) -> Place
+pub fn products(
+    text: &[u8],
+    from: usize,
+    first: usize,
+    count: usize,
+    words: &mut [i64],
+) -> LineStart
     requires { ⌜ first + count < 18446744073709551616 ⌝ ∗ ⌜ productWord count ≤ length (now words) ⌝ }
-    ensures { λ r. ⌜ (r ≡ placeOf (productsFrom (now (text .entry)) from first count (now (words .entry)))) × (now (words .exit) ≡ productsFrom (now (text .entry)) from first count (now (words .entry)) .held) ⌝ }
+    ensures { λ r. ⌜ (r ≡ lineStartOf (productsFrom (now (text .entry)) from first count (now (words .entry)))) × (now (words .exit) ≡ productsFrom (now (text .entry)) from first count (now (words .entry)) .held) ⌝ }
 {
     let mut at = from;
     let mut line = first;
@@ -40,14 +46,14 @@ pub fn products(text: &[u8], from: usize, first: usize, count: usize, words: &mu
     while j < count {
         let next = product_line(text, at, words, base);
         if next == LOST {
-            return Place { at: next, line };
+            return LineStart { at: next, line };
         }
         at = next;
         line += 1;
         base += 5;
         j += 1;
     }
-    Place { at, line }
+    LineStart { at, line }
 }
 
 // The accounts' lines, up to the first bad one.
@@ -58,9 +64,9 @@ pub fn accounts(
     count: usize,
     p: usize,
     words: &mut [i64],
-) -> Place
+) -> LineStart
     requires { ⌜ first + count < 18446744073709551616 ⌝ ∗ ⌜ p ≤ 16 ⌝ ∗ ⌜ accountWord p count ≤ length (now words) ⌝ }
-    ensures { λ r. ⌜ (r ≡ placeOf (accountsFrom (now (text .entry)) from first p count (now (words .entry)))) × (now (words .exit) ≡ accountsFrom (now (text .entry)) from first p count (now (words .entry)) .held) ⌝ }
+    ensures { λ r. ⌜ (r ≡ lineStartOf (accountsFrom (now (text .entry)) from first p count (now (words .entry)))) × (now (words .exit) ≡ accountsFrom (now (text .entry)) from first p count (now (words .entry)) .held) ⌝ }
 {
     let wide = 8 + p * 2;
     let mut at = from;
@@ -70,14 +76,14 @@ pub fn accounts(
     while a < count {
         let next = account_line(text, at, words, base);
         if next == LOST {
-            return Place { at: next, line };
+            return LineStart { at: next, line };
         }
         at = next;
         line += 1;
         base += wide;
         a += 1;
     }
-    Place { at, line }
+    LineStart { at, line }
 }
 
 // States a position that was not stated yet. A mark for each position tells a repeat, so that no line is compared with those before it.
@@ -135,8 +141,8 @@ fn position_line(
                 words,
                 marks,
                 p,
-                whole::size(account) as usize,
-                whole::size(product) as usize,
+                whole::nat_abs(account) as usize,
+                whole::nat_abs(product) as usize,
                 q,
                 b,
                 next,
@@ -157,9 +163,9 @@ pub fn positions(
     p: usize,
     words: &mut [i64],
     marks: &mut [u8],
-) -> Place
+) -> LineStart
     requires { ⌜ first + count < 18446744073709551616 ⌝ ∗ ⌜ n ≤ 64 ⌝ ∗ ⌜ p ≤ 16 ⌝ ∗ ⌜ lengthOf n p ≤ length (now words) ⌝ ∗ ⌜ 1024 ≤ length (now marks) ⌝ }
-    ensures { λ r. ⌜ (r ≡ placeOf (positionsFrom (now (text .entry)) from first n p count (record { words = now (words .entry); marks = now (marks .entry) }))) × (now (words .exit) ≡ positionsFrom (now (text .entry)) from first n p count (record { words = now (words .entry); marks = now (marks .entry) }) .held .words) ⌝ }
+    ensures { λ r. ⌜ (r ≡ lineStartOf (positionsFrom (now (text .entry)) from first n p count (record { words = now (words .entry); marks = now (marks .entry) }))) × (now (words .exit) ≡ positionsFrom (now (text .entry)) from first n p count (record { words = now (words .entry); marks = now (marks .entry) }) .held .words) ⌝ }
 {
     let mut at = from;
     let mut line = first;
@@ -167,11 +173,11 @@ pub fn positions(
     while i < count {
         let next = position_line(text, at, n, p, words, marks);
         if next == LOST {
-            return Place { at: next, line };
+            return LineStart { at: next, line };
         }
         at = next;
         line += 1;
         i += 1;
     }
-    Place { at, line }
+    LineStart { at, line }
 }

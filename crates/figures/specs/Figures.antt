@@ -4,15 +4,15 @@ use mathlib.Core.Path.{_≡_, refl, ap}
 use mathlib.Core.List.{[], _∷_}
 use Prim.Native.Nat.{ℕ, _<_}
 use lib.IntN.{ℤ, pos, negℤ, _+ℤ_, _*ℤ_}
-use Rattle.whole.specs.Number.{minZ, maxZ, below, floorDiv}
+use Rattle.whole.specs.Number.{minZ, maxZ, takesAway, floorDiv}
 use Rattle.whole.specs.Reps.{leaf}
 use Rattle.whole.specs.Whole.{whole, facts, by}
 use Rattle.rules.specs.Product.{marginOf, rawDifference, differenceOf}
 use Rattle.rules.specs.Account.{lgValue, depositOf, requiredOf, excessOne, excessTwo, limitOf, firstShortfall, secondShortfall}
-use Rattle.rules.specs.Calls.{transferred, refusedAt, withdrawn}
+use Rattle.rules.specs.AccountCalls.{transferred, refusedAt, withdrawn}
 use Rattle.rules.specs.declared.Account.{Account}
 use Rattle.portions.specs.Share.{shares}
-use Rattle.shares.specs.Examples.{r11, r12-any}
+use Rattle.shares.specs.LossExamples.{r11, r12-any}
 
 -- kinds: a yen product and a cross; a broker and a liquidity provider
 abbrev yen : ℤ
@@ -85,7 +85,7 @@ unfolding withdrawn
 eighth-refused guarantee cap h = rw (eighth-limit guarantee cap h)
 
 pub figures : Figures
-unfolding minZ maxZ below floorDiv differenceOf lgValue depositOf requiredOf excessOne excessTwo limitOf firstShortfall secondShortfall
+unfolding minZ maxZ takesAway floorDiv differenceOf lgValue depositOf requiredOf excessOne excessTwo limitOf firstShortfall secondShortfall
 figures =
     record {
       R1 = refl;

@@ -17,7 +17,7 @@ pub fn number(x: i64) {
     if x < 0 {
         text(b"-");
     }
-    io::print_decimal(STDOUT_FILENO, whole::size(x));
+    io::print_decimal(STDOUT_FILENO, whole::nat_abs(x));
 }
 
 pub fn show(name: &[u8], came: i64, expected: i64) {

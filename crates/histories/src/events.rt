@@ -194,7 +194,7 @@ fn waits(account: i64, turn: u64) -> u64 {
     if 3 < account {
         return LATE;
     }
-    if whole::size(account) % 8 + 1 < turn {
+    if whole::nat_abs(account) % 8 + 1 < turn {
         return LATE;
     }
     EARLY

@@ -4,17 +4,17 @@ use mathlib.Core.Path.{_≡_, refl, ap, _∙_}
 use mathlib.Core.Bool.{Bool, true, false, _||_}
 use mathlib.Core.List.{List}
 use lib.IntN.{ℤ, natAbs}
-use Rattle.whole.specs.Number.{is, isBelow}
+use Rattle.whole.specs.Number.{is, isOneOf, unless}
 use Rattle.whole.specs.Tests.{in-range}
 use native.Mathlib.Omega.{arith}
 use Rattle.acts.specs.Trade.{oneOfEach}
 use Rattle.rules.specs.declared.Standing.{Standing}
 use Rattle.places.specs.declared.Shape.{Shape}
 use Rattle.places.specs.Place.{Layout, Put, get, puts}
-use Rattle.places.specs.Act.{Act, unless, finish}
+use Rattle.places.specs.Act.{Act, finish}
 use Rattle.soundness.specs.Sound.{accountAt}
 use Rattle.soundness.specs.Perform.{refuseQuestion}
-use Rattle.rules.specs.Calls.{replyOf}
+use Rattle.rules.specs.AccountCalls.{replyOf}
 use Rattle.rules.specs.declared.Reply.{Reply}
 use Rattle.rules.specs.declared.Taken.{Taken}
 use borrow.Author.Tests.{eq-eqb, ne-eqb}
@@ -24,7 +24,7 @@ use Prim.Native.Nat.{ℕ}
 
 -- the words stay
 pub question-finish : (L : Layout) (s : Shape) (W : List ℤ) (a : ℤ) → _≡_ {A = Standing × List ℤ} (questionRule a s (get L s W) .answer, W) (finish L s W (questionRule a s (get L s W)))
-question-finish L s W a = go (isBelow (s .n) a)
+question-finish L s W a = go (isOneOf (s .n) a)
   where
     o : Act Standing
     o = questionAct (natAbs a) (accountAt (get L s W) (natAbs a))
@@ -43,10 +43,10 @@ module _ (L : Layout) (s : Shape) (W : List ℤ) (t : Taken) (us : List Put) (r 
 
 -- a request that names the account k of the ledger, and one that names none
 module _ {A : Type 0} (L : Layout) (s : Shape) (W : List ℤ) (nay : Act A) (a : ℤ) (f : ℕ → Account → Act A) where
-  pub at-account : (k : ℕ) → k ≡ natAbs a → isBelow (s .n) a ≡ true → finish L s W (f k (accountAt (get L s W) k)) ≡ finish L s W (atAccount nay a f s (get L s W))
+  pub at-account : (k : ℕ) → k ≡ natAbs a → isOneOf (s .n) a ≡ true → finish L s W (f k (accountAt (get L s W) k)) ≡ finish L s W (atAccount nay a f s (get L s W))
   at-account k e t = rw t (ap (λ z. finish L s W (f z (accountAt (get L s W) z))) e)
 
-  pub no-account : isBelow (s .n) a ≡ false → atAccount nay a f s (get L s W) ≡ nay
+  pub no-account : isOneOf (s .n) a ≡ false → atAccount nay a f s (get L s W) ≡ nay
   no-account t = rw t
 
 -- one F and one L, by the buyer's kind

@@ -111,10 +111,10 @@ pub fn deposit_in(words: &mut [i64], s: Shape, a: i64, x: i64) -> Reply
     ensures { λ r. ⌜ (r, now (words .exit)) ≡ finish byAccount s (now (words .entry)) (Q.depositRule a x s (get byAccount s (now (words .entry)))) ⌝ }
 {
     let n = s.n;
-    if !whole::is_below(a, n) {
+    if !whole::is_one_of(a, n) {
         return soundness::refused(3);
     }
-    deposit_at(words, s, whole::size(a) as usize, x)
+    deposit_at(words, s, whole::nat_abs(a) as usize, x)
 }
 
 pub fn withdraw_in(words: &mut [i64], s: Shape, a: i64, x: i64) -> Reply
@@ -122,10 +122,10 @@ pub fn withdraw_in(words: &mut [i64], s: Shape, a: i64, x: i64) -> Reply
     ensures { λ r. ⌜ (r, now (words .exit)) ≡ finish byAccount s (now (words .entry)) (Q.withdrawRule a x s (get byAccount s (now (words .entry)))) ⌝ }
 {
     let n = s.n;
-    if !whole::is_below(a, n) {
+    if !whole::is_one_of(a, n) {
         return soundness::refused(3);
     }
-    withdraw_at(words, s, whole::size(a) as usize, x)
+    withdraw_at(words, s, whole::nat_abs(a) as usize, x)
 }
 
 pub fn guarantee_in(words: &mut [i64], s: Shape, a: i64, guarantee: i64, cap: i64) -> Reply
@@ -133,10 +133,10 @@ pub fn guarantee_in(words: &mut [i64], s: Shape, a: i64, guarantee: i64, cap: i6
     ensures { λ r. ⌜ (r, now (words .exit)) ≡ finish byAccount s (now (words .entry)) (Q.guaranteeRule a guarantee cap s (get byAccount s (now (words .entry)))) ⌝ }
 {
     let n = s.n;
-    if !whole::is_below(a, n) {
+    if !whole::is_one_of(a, n) {
         return soundness::refused(3);
     }
-    guarantee_at(words, s, whole::size(a) as usize, guarantee, cap)
+    guarantee_at(words, s, whole::nat_abs(a) as usize, guarantee, cap)
 }
 
 pub fn question_in(words: &[i64], s: Shape, a: i64) -> Standing
@@ -144,8 +144,8 @@ pub fn question_in(words: &[i64], s: Shape, a: i64) -> Standing
     ensures { λ r. ⌜ r ≡ Q.questionRule a s (get byAccount s (now (words .entry))) .answer ⌝ }
 {
     let n = s.n;
-    if !whole::is_below(a, n) {
+    if !whole::is_one_of(a, n) {
         return no_standing(3);
     }
-    rules::calls::standing_of(soundness::account_at(words, s, whole::size(a) as usize))
+    rules::calls::standing_of(soundness::account_at(words, s, whole::nat_abs(a) as usize))
 }

@@ -4,7 +4,7 @@ ghost use mathlib.Core.List.{[], _∷_};
 ghost use Prim.Native.Nat.{_+_, _<_, _≤_, _^_};
 ghost use lib.IntN.{pos, natAbs, _+ℤ_};
 ghost use lib.ListN.{length, getD, set};
-ghost use Rattle.rules.specs.Calls.{transferred};
+ghost use Rattle.rules.specs.AccountCalls.{transferred};
 ghost use Rattle.places.specs.Place.{get, puts, _≔_, cash, due, house, phase};
 ghost use Rattle.places.specs.PlaceLaws.{Sized};
 ghost use Rattle.places.specs.ByAccount.{byAccount};
@@ -20,7 +20,7 @@ pub fn begin_in(words: &mut [i64], s: Shape) -> Reply
     requires { ⌜ Ledger byAccount s (now words) ⌝ }
     ensures { λ r. ⌜ (r, now (words .exit)) ≡ finish byAccount s (now (words .entry)) (R.beginRule s (get byAccount s (now (words .entry)))) ⌝ }
 {
-    if !whole::within(places::head_word(words, s, places::PHASE), 0, 0) {
+    if !whole::between(places::head_word(words, s, places::PHASE), 0, 0) {
         return soundness::refused(7);
     }
     if !soundness::run::stays(words, s, places::head_word(words, s, places::HOUSE), 0) {
@@ -78,9 +78,9 @@ pub fn step_in(words: &mut [i64], s: Shape) -> Reply
 {
     let n = s.n;
     let phase = places::head_word(words, s, places::PHASE);
-    if !whole::within(phase, 1, n as i64) {
+    if !whole::between(phase, 1, n as i64) {
         return soundness::refused(7);
     }
-    let turn = whole::size(phase) as usize;
+    let turn = whole::nat_abs(phase) as usize;
     step_at(words, s, turn - 1)
 }

@@ -4,13 +4,13 @@ ghost use mathlib.Core.Bool.{true, _&&_};
 ghost use mathlib.Core.List.{[], _∷_};
 ghost use Prim.Native.Nat.{_<_, _≤_, _^_};
 ghost use lib.IntN.{pos, natAbs, _+ℤ_};
-ghost use Rattle.whole.specs.Number.{isBelow, between};
+ghost use Rattle.whole.specs.Number.{isOneOf, between, unless};
 ghost use Rattle.rules.specs.Sizes.{mostPrice, mostLots};
 ghost use Rattle.places.specs.Place.{get, puts, _≔_, kind};
 ghost use Rattle.places.specs.Place as L;
 ghost use Rattle.places.specs.PlaceLaws.{Sized};
 ghost use Rattle.places.specs.ByAccount.{byAccount};
-ghost use Rattle.places.specs.Act.{finish, unless};
+ghost use Rattle.places.specs.Act.{finish};
 ghost use Rattle.soundness.specs.SoundLaws.{Ledger};
 ghost use Rattle.soundness.specs.Perform.{refuse};
 ghost use Rattle.acts.specs.Trade as T;
@@ -101,13 +101,13 @@ fn one_of_each(words: &[i64], s: Shape, buyer: usize, seller: usize) -> bool
 {
     let k = places::acct_word(words, s, buyer, places::KIND);
     let l = places::acct_word(words, s, seller, places::KIND);
-    if whole::within(k, 0, 0) {
-        return whole::within(l, 1, 1);
+    if whole::between(k, 0, 0) {
+        return whole::between(l, 1, 1);
     }
-    if !whole::within(k, 1, 1) {
+    if !whole::between(k, 1, 1) {
         return false;
     }
-    whole::within(l, 0, 0)
+    whole::between(l, 0, 0)
 }
 
 // Whether lots and price of a trade are in range, the price by the product's kind.
@@ -116,10 +116,10 @@ fn terms_ok(words: &[i64], s: Shape, j: usize, lots: i64, price: i64) -> bool
     requires { ⌜ j < s .p ⌝ }
     ensures { λ r. ⌜ r ≡ T.termsOk (get byAccount s (now (words .entry))) j lots price ⌝ }
 {
-    if !whole::within(lots, 1, rules::sizes::MOST_LOTS) {
+    if !whole::between(lots, 1, rules::sizes::MOST_LOTS) {
         return false;
     }
-    whole::within(
+    whole::between(
         price,
         1,
         rules::products::most_price(places::prod_word(words, s, j, places::PRODUCT_KIND)),
@@ -151,12 +151,12 @@ fn trade_between(
 
 // Whether both figures name accounts of the ledger.
 fn both_below(buyer: i64, seller: i64, n: usize) -> bool
-    ensures { λ r. ⌜ r ≡ (isBelow n buyer && isBelow n seller) ⌝ }
+    ensures { λ r. ⌜ r ≡ (isOneOf n buyer && isOneOf n seller) ⌝ }
 {
-    if !whole::is_below(buyer, n) {
+    if !whole::is_one_of(buyer, n) {
         return false;
     }
-    whole::is_below(seller, n)
+    whole::is_one_of(seller, n)
 }
 
 pub fn trade_in(
@@ -176,15 +176,15 @@ pub fn trade_in(
     if !both_below(buyer, seller, n) {
         return soundness::refused(3);
     }
-    if !whole::is_below(product, p) {
+    if !whole::is_one_of(product, p) {
         return soundness::refused(4);
     }
     trade_between(
         words,
         s,
-        whole::size(buyer) as usize,
-        whole::size(seller) as usize,
-        whole::size(product) as usize,
+        whole::nat_abs(buyer) as usize,
+        whole::nat_abs(seller) as usize,
+        whole::nat_abs(product) as usize,
         lots,
         price,
     )

@@ -8,10 +8,10 @@ use native.Mathlib.Omega.{arith}
 use lib.IntN.{ℤ}
 use lib.ListN.{length, set, length-set}
 use lib.Seq.{sets}
-use Rattle.lines.specs.Lines.{fieldAt, closing, Figures, follow, figuresAt}
+use Rattle.lines.specs.Lines.{fieldAt, closeOf, FiguresRead, follow, figuresAt}
 use Rattle.lines.specs.declared.Field.{Field}
 
-figures-step : (text : List ℕ) (at left : ℕ) → 0 < left → figuresAt text at left ≡ follow (fieldAt text at (closing (left - 1)) .value) (figuresAt text (fieldAt text at (closing (left - 1)) .next) (left - 1))
+figures-step : (text : List ℕ) (at left : ℕ) → 0 < left → figuresAt text at left ≡ follow (fieldAt text at (closeOf (left - 1)) .value) (figuresAt text (fieldAt text at (closeOf (left - 1)) .next) (left - 1))
 unfolding figuresAt
 figures-step text at zero h = absurd (not-suc-le-zero h)
 figures-step text at (suc k) h = let e : suc k - 1 ≡ k = omega arith in rw e
@@ -23,14 +23,14 @@ pub record Filled (text : List ℕ) (from count : ℕ) (out₀ : List ℤ) (base
   pub ends : figuresAt text from count .next ≡ figuresAt text at left .next
   pub held : sets out₀ base (figuresAt text from count .values) ≡ sets out i (figuresAt text at left .values)
 
-pub filled-more : {text : List ℕ} {from count : ℕ} {out₀ : List ℤ} {base : ℕ} {out : List ℤ} {at i left : ℕ} (f : Field) (v : ℤ) → Filled text from count out₀ base out at i left → 0 < left → f ≡ fieldAt text at (closing (left - 1)) → v ≡ f .value → Filled text from count out₀ base (set out i v) (f .next) (i + 1) (left - 1)
+pub filled-more : {text : List ℕ} {from count : ℕ} {out₀ : List ℤ} {base : ℕ} {out : List ℤ} {at i left : ℕ} (f : Field) (v : ℤ) → Filled text from count out₀ base out at i left → 0 < left → f ≡ fieldAt text at (closeOf (left - 1)) → v ≡ f .value → Filled text from count out₀ base (set out i v) (f .next) (i + 1) (left - 1)
 filled-more {text} {from} {count} {out₀} {base} {out} {at} {i} {left} f v s h e d =
     record {
       room = omega (arith, s .room, length-set out i v);
       same = length-set out i v ∙ s .same;
-      ends = s .ends ∙ ap (λ (x : Figures). x .next) (figures-step text at left h) ∙ ap (λ (x : Field). figuresAt text (x .next) (left - 1) .next) (sym e);
+      ends = s .ends ∙ ap (λ (x : FiguresRead). x .next) (figures-step text at left h) ∙ ap (λ (x : Field). figuresAt text (x .next) (left - 1) .next) (sym e);
       held =
-          s .held ∙ ap (λ (x : Figures). sets out i (x .values)) (figures-step text at left h)
+          s .held ∙ ap (λ (x : FiguresRead). sets out i (x .values)) (figures-step text at left h)
           ∙ ap (λ (x : Field). sets (set out i (x .value)) (suc i) (figuresAt text (x .next) (left - 1) .values)) (sym e)
           ∙ rw (add-one i) (ap (λ (x : ℤ). sets (set out i x) (suc i) (figuresAt text (f .next) (left - 1) .values)) (sym d));
     }

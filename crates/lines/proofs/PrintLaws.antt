@@ -11,7 +11,7 @@ use lib.IntN.{ℤ, pos, negsuc, natAbs}
 use lib.Signed.{ltZ}
 use lib.ListN.{length, drop, getD, length-drop, length-append}
 use lib.Seq.{drop-cons}
-use Rattle.lines.specs.Lines.{closing}
+use Rattle.lines.specs.Lines.{closeOf}
 use Rattle.lines.specs.Print.{digits, natural, decimal, field, numbersLine}
 
 digits-long : (k n : ℕ) (t : Bool) → length (digits k (n / 10)) ≤ k → length (cond t ((48 + n) ∷ []) (digits k (n / 10) ++ ((48 + n % 10) ∷ []))) ≤ suc k
@@ -61,10 +61,10 @@ field-length x close = omega (arith, length-append (decimal x) (close ∷ []), d
 pub line-length : (zs : List ℤ) → length (numbersLine zs) ≤ length zs * 22
 unfolding numbersLine
 line-length [] = omega arith
-line-length (z ∷ zs) = omega (arith, length-append (field z (closing (length zs))) (numbersLine zs), field-length z (closing (length zs)), line-length zs)
+line-length (z ∷ zs) = omega (arith, length-append (field z (closeOf (length zs))) (numbersLine zs), field-length z (closeOf (length zs)), line-length zs)
 
 -- one number of a line, and the rest of it
-pub line-more : (zs : List ℤ) (i : ℕ) → i < length zs → numbersLine (drop i zs) ≡ field (getD zs i (pos 0)) (closing (length zs - (i + 1))) ++ numbersLine (drop (i + 1) zs)
+pub line-more : (zs : List ℤ) (i : ℕ) → i < length zs → numbersLine (drop i zs) ≡ field (getD zs i (pos 0)) (closeOf (length zs - (i + 1))) ++ numbersLine (drop (i + 1) zs)
 unfolding numbersLine
 line-more zs i h = rw (drop-cons zs i (pos 0) h, add-one i, ← length-drop (suc i) zs) refl
 

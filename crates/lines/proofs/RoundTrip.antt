@@ -12,23 +12,23 @@ use lib.ListN.{length, drop, getD, length-drop, length-append}
 use lib.Seq.{getD-drop, drop-drop, getD-append-seam, drop-append-seam}
 use mir.Syntax.{w64}
 use mir.Val.{SFits}
-use Rattle.lines.specs.Lines.{fieldAt, closed, closing, follow, figuresAt}
+use Rattle.lines.specs.Lines.{fieldAt, closedField, closeOf, follow, figuresAt}
 use Rattle.lines.specs.Print.{digits, natural, decimal, field, numbersLine}
-use Rattle.lines.specs.Text.{run, natFrom, numberAt}
+use Rattle.lines.specs.Text.{leadingDigits, natFrom, numberAt}
 use Rattle.lines.specs.declared.Field.{Field}
 use Rattle.lines.specs.declared.Numeral.the-variants.{Value}
 
 -- ---- digits are read as digits
-run-one : (d : ℕ) (tail : List ℕ) → 48 ≤ d → d ≤ 57 → run (d ∷ tail) ≡ d ∷ run tail
+run-one : (d : ℕ) (tail : List ℕ) → 48 ≤ d → d ≤ 57 → leadingDigits (d ∷ tail) ≡ d ∷ leadingDigits tail
 run-one d tail l h = rw (le-ltb d 48 l, le-ltb 57 d h)
 
-run-step : (k n : ℕ) (t : Bool) (tail : List ℕ) → ltb n 10 ≡ t → ((u : List ℕ) → run (digits k (n / 10) ++ u) ≡ digits k (n / 10) ++ run u) → run (cond t ((48 + n) ∷ []) (digits k (n / 10) ++ ((48 + n % 10) ∷ [])) ++ tail) ≡ cond t ((48 + n) ∷ []) (digits k (n / 10) ++ ((48 + n % 10) ∷ [])) ++ run tail
+run-step : (k n : ℕ) (t : Bool) (tail : List ℕ) → ltb n 10 ≡ t → ((u : List ℕ) → leadingDigits (digits k (n / 10) ++ u) ≡ digits k (n / 10) ++ leadingDigits u) → leadingDigits (cond t ((48 + n) ∷ []) (digits k (n / 10) ++ ((48 + n % 10) ∷ [])) ++ tail) ≡ cond t ((48 + n) ∷ []) (digits k (n / 10) ++ ((48 + n % 10) ∷ [])) ++ leadingDigits tail
 run-step k n true tail e h = run-one (48 + n) tail (omega arith) (omega (arith, ltb-true n 10 e))
 run-step k n false tail e h =
-    ap run (append-assoc (digits k (n / 10)) ((48 + n % 10) ∷ []) tail) ∙ h ((48 + n % 10) ∷ tail)
-    ∙ ap (λ (l : List ℕ). digits k (n / 10) ++ l) (run-one (48 + n % 10) tail (omega arith) (omega arith)) ∙ sym (append-assoc (digits k (n / 10)) ((48 + n % 10) ∷ []) (run tail))
+    ap leadingDigits (append-assoc (digits k (n / 10)) ((48 + n % 10) ∷ []) tail) ∙ h ((48 + n % 10) ∷ tail)
+    ∙ ap (λ (l : List ℕ). digits k (n / 10) ++ l) (run-one (48 + n % 10) tail (omega arith) (omega arith)) ∙ sym (append-assoc (digits k (n / 10)) ((48 + n % 10) ∷ []) (leadingDigits tail))
 
-run-digits : (k n : ℕ) (tail : List ℕ) → run (digits k n ++ tail) ≡ digits k n ++ run tail
+run-digits : (k n : ℕ) (tail : List ℕ) → leadingDigits (digits k n ++ tail) ≡ digits k n ++ leadingDigits tail
 unfolding digits
 run-digits zero n tail = refl
 run-digits (suc k) n tail = run-step k n (ltb n 10) tail refl (run-digits k (n / 10))
@@ -74,13 +74,13 @@ zero-digits k = refl
 
 -- ---- a number without its sign, at a place of a text
 module _ (text : List ℕ) (at n close : ℕ) (post : List ℕ) (low : close < 48) (small : n < 10 ^ 20) (there : drop at text ≡ natural n ++ (close ∷ post)) where
-  run-there : run (drop at text) ≡ natural n
-  run-there = ap run there ∙ run-digits 20 n (close ∷ post) ∙ ap (λ (l : List ℕ). natural n ++ l) none ∙ append-nil (natural n)
+  run-there : leadingDigits (drop at text) ≡ natural n
+  run-there = ap leadingDigits there ∙ run-digits 20 n (close ∷ post) ∙ ap (λ (l : List ℕ). natural n ++ l) none ∙ append-nil (natural n)
     where
-      none : run (close ∷ post) ≡ []
+      none : leadingDigits (close ∷ post) ≡ []
       none = rw (lt-ltb close 48 low)
 
-  value-there : natFrom 0 (run (drop at text)) ≡ n
+  value-there : natFrom 0 (leadingDigits (drop at text)) ≡ n
   value-there = ap (natFrom 0) run-there ∙ nat-digits 20 n small
 
   close-there : getD text (at + length (natural n)) 0 ≡ close
@@ -92,7 +92,7 @@ module _ (text : List ℕ) (at n close : ℕ) (post : List ℕ) (low : close < 4
   lead-there : getD text at 0 ≡ getD (natural n ++ (close ∷ post)) 0 0
   lead-there = ap (λ (k : ℕ). getD text k 0) (sym (add-zero at)) ∙ sym (getD-drop at text 0 0) ∙ ap (λ (l : List ℕ). getD l 0 0) there
 
-  close-good : (v : ℤ) → closed text close (Value v (at + length (natural n))) ≡ record { value = v; next = at + length (natural n) + 1 }
+  close-good : (v : ℤ) → closedField text close (Value v (at + length (natural n))) ≡ record { value = v; next = at + length (natural n) + 1 }
   close-good v = rw (lt-ltb (at + length (natural n)) (length text) inside, eq-eqb (getD text (at + length (natural n)) 0) close close-there)
 
   lead-some : 1 ≤ n → 48 < getD text at 0
@@ -131,8 +131,8 @@ unfolding numberAt
 plain-zero text at close post low there =
     rw (lead-is, run-is, ne-eqb (at + 1) at (λ e. longer e), eq-eqb (at + 1) (at + 1) refl)
   where
-    run-is : run (drop at text) ≡ 48 ∷ []
-    run-is = ap run there ∙ rw (lt-ltb close 48 low)
+    run-is : leadingDigits (drop at text) ≡ 48 ∷ []
+    run-is = ap leadingDigits there ∙ rw (lt-ltb close 48 low)
 
     lead-is : getD text at 0 ≡ 48
     lead-is = ap (λ (k : ℕ). getD text k 0) (sym (add-zero at)) ∙ sym (getD-drop at text 0 0) ∙ ap (λ (l : List ℕ). getD l 0 0) there
@@ -151,7 +151,7 @@ unfolding fieldAt decimal
 field-back text at (pos n) close post low fits there =
     let t = there ∙ append-assoc (natural n) (close ∷ []) post in
     let small : n < 2 ^ 63 = fits .sfits in
-    ap (closed text close) (plain-back text at n close post low small t) ∙ close-good text at n close post low (omega arith) t (pos n)
+    ap (closedField text close) (plain-back text at n close post low small t) ∙ close-good text at n close post low (omega arith) t (pos n)
     ∙ (λ i. record { value = pos n; next = longer i })
   where
     longer : at + length (natural n) + 1 ≡ at + length (natural n ++ (close ∷ []))
@@ -160,7 +160,7 @@ field-back text at (negsuc n) close post low fits there =
     let t : drop (at + 1) text ≡ natural (suc n) ++ (close ∷ post) = sym (drop-drop 1 at text) ∙ ap (drop 1) there ∙ append-assoc (natural (suc n)) (close ∷ []) post in
     let small : n < 2 ^ 63 = fits .sfits in
     let sign : getD text at 0 ≡ 45 = ap (λ (k : ℕ). getD text k 0) (sym (add-zero at)) ∙ sym (getD-drop at text 0 0) ∙ ap (λ (l : List ℕ). getD l 0 0) there in
-    ap (closed text close) (minus-some text (at + 1) (suc n) close post low (omega arith) t at refl sign (omega arith) (omega arith))
+    ap (closedField text close) (minus-some text (at + 1) (suc n) close post low (omega arith) t at refl sign (omega arith) (omega arith))
     ∙ close-good text (at + 1) (suc n) close post low (omega arith) t (negsuc n) ∙ (λ i. record { value = negsuc n; next = longer i })
   where
     longer : at + 1 + length (natural (suc n)) + 1 ≡ at + length (45 ∷ (natural (suc n) ++ (close ∷ [])))
@@ -171,7 +171,7 @@ pub data AllFit : List ℤ → Type 0 where
   none : AllFit []
   more : {z : ℤ} {zs : List ℤ} → SFits w64 z → AllFit zs → AllFit (z ∷ zs)
 
-closing-low : (k : ℕ) → closing k < 48
+closing-low : (k : ℕ) → closeOf k < 48
 closing-low zero = omega arith
 closing-low (suc k) = omega arith
 
@@ -179,12 +179,12 @@ pub line-back : (text : List ℕ) (at : ℕ) (zs : List ℤ) (post : List ℕ) �
 unfolding figuresAt numbersLine
 line-back text at [] post fits there = let e : at ≡ at + 0 = omega arith in (λ i. record { values = []; next = e i })
 line-back text at (z ∷ zs) post (more f fs) there =
-    let close = closing (length zs) in
+    let close = closeOf (length zs) in
     let t = there ∙ append-assoc (field z close) (numbersLine zs) post in
     let e = field-back text at z close (numbersLine zs ++ post) (closing-low (length zs)) f t in
     let d : drop (at + length (field z close)) text ≡ numbersLine zs ++ post = sym (drop-drop (length (field z close)) at text) ∙ ap (drop (length (field z close))) t ∙ drop-append-seam (field z close) (numbersLine zs ++ post) in
     ap (λ (g : Field). follow (g .value) (figuresAt text (g .next) (length zs))) e ∙ ap (follow z) (line-back text (at + length (field z close)) zs post fs d)
     ∙ (λ i. record { values = z ∷ zs; next = longer i })
   where
-    longer : at + length (field z (closing (length zs))) + length (numbersLine zs) ≡ at + length (field z (closing (length zs)) ++ numbersLine zs)
-    longer = omega (arith, length-append (field z (closing (length zs))) (numbersLine zs))
+    longer : at + length (field z (closeOf (length zs))) + length (numbersLine zs) ≡ at + length (field z (closeOf (length zs)) ++ numbersLine zs)
+    longer = omega (arith, length-append (field z (closeOf (length zs))) (numbersLine zs))

@@ -1,7 +1,7 @@
 -- Texts, line by line. Believed: `Bytes`, `Text` (words and numbers at a place), `Lines` (fields, lines, the first bad line), `Print`.
--- `Inside` has words for the contracts of private functions.
+-- `InsideLines` has words for the contracts of private functions.
 pub mod Bytes
 pub mod Text
 pub mod Lines
 pub mod Print
-pub mod Inside
+pub mod InsideLines

@@ -11,7 +11,7 @@ use Rattle.lines.specs.Text.{wordAt, numberAt}
 use Rattle.lines.specs.declared.Numeral.{Numeral}
 use Rattle.lines.specs.declared.Numeral.the-variants as N
 use Rattle.lines.specs.declared.Field.{Field}
-use Rattle.lines.specs.declared.Place.{Place}
+use Rattle.lines.specs.declared.LineStart.{LineStart}
 
 -- 01: "a text of at most 65,536 bytes"
 abbrev pub longest : ℕ
@@ -35,34 +35,34 @@ abbrev pub noField : Field
 noField = record { value = pos 0; next = lost }
 
 -- a number that was read, and the byte that closes its field
-abbrev pub closed : List ℕ → ℕ → Numeral → Field
-closed text close N.Bad = noField
-closed text close (N.Value v e) =
+abbrev pub closedField : List ℕ → ℕ → Numeral → Field
+closedField text close N.Bad = noField
+closedField text close (N.Value v e) =
     cond (ltb e (length text)) (cond (eqb (getD text e 0) close) (record { value = v; next = e + 1 }) noField) noField
 
 -- the number at a place, closed by a byte; and where the next field starts
 unfoldable pub fieldAt : List ℕ → ℕ → ℕ → Field
-fieldAt text at close = closed text close (numberAt text at)
+fieldAt text at close = closedField text close (numberAt text at)
 
 -- ---- several fields up to the end of a line: a space after each but the last, a line feed after that
-pub record Figures : Type 0 where
+pub record FiguresRead : Type 0 where
   pub values : List ℤ
   pub next : ℕ
 
-abbrev pub follow : ℤ → Figures → Figures
+abbrev pub follow : ℤ → FiguresRead → FiguresRead
 follow v f = record { values = v ∷ f .values; next = f .next }
 
 -- what closes a field after which k more come
-abbrev pub closing : ℕ → ℕ
-closing zero = lineFeed
-closing (suc k) = space
+abbrev pub closeOf : ℕ → ℕ
+closeOf zero = lineFeed
+closeOf (suc k) = space
 
-unfoldable pub figuresAt : List ℕ → ℕ → ℕ → Figures
+unfoldable pub figuresAt : List ℕ → ℕ → ℕ → FiguresRead
 figuresAt text at zero = record { values = []; next = at }
-figuresAt text at (suc k) = follow (fieldAt text at (closing k) .value) (figuresAt text (fieldAt text at (closing k) .next) k)
+figuresAt text at (suc k) = follow (fieldAt text at (closeOf k) .value) (figuresAt text (fieldAt text at (closeOf k) .next) k)
 
 -- a line of kind 0, a word and k figures, or of kind 1, another word and m figures
-unfoldable pub kindAt : List ℕ → ℕ → List ℕ → ℕ → List ℕ → ℕ → Figures
+unfoldable pub kindAt : List ℕ → ℕ → List ℕ → ℕ → List ℕ → ℕ → FiguresRead
 kindAt text at zeroth k first m =
     cond (eqb (past text at zeroth) lost) (follow (pos 1) (figuresAt text (past text at first) m))
     (follow (pos 0) (figuresAt text (past text at zeroth) k))
@@ -80,8 +80,8 @@ pub record Stand (M : Type 0) : Type 0 where
   pub line : ℕ
   pub held : M
 
-abbrev pub placeOf : {M : Type 0} → Stand M → Place
-placeOf s = record { at = s .at; line = s .line }
+abbrev pub lineStartOf : {M : Type 0} → Stand M → LineStart
+lineStartOf s = record { at = s .at; line = s .line }
 
 -- past a line: its number goes up by one, unless the line is bad
 abbrev pub onward : {M : Type 0} → ℕ → Line M → Stand M

@@ -6,7 +6,7 @@ use lib.Dec.{ltb}
 use lib.IntN.{ℤ, pos, negsuc}
 use lib.ListN.{length}
 use Rattle.lines.specs.Bytes.{bytes}
-use Rattle.lines.specs.Lines.{closing}
+use Rattle.lines.specs.Lines.{closeOf}
 
 -- the digits of a number of at most k digits, 48 that of 0
 unfoldable pub digits : ℕ → ℕ → List ℕ
@@ -29,7 +29,7 @@ field z close = decimal z ++ (close ∷ [])
 -- numbers with a space between, and a line feed
 unfoldable pub numbersLine : List ℤ → List ℕ
 numbersLine [] = []
-numbersLine (z ∷ zs) = field z (closing (length zs)) ++ numbersLine zs
+numbersLine (z ∷ zs) = field z (closeOf (length zs)) ++ numbersLine zs
 
 -- `BAD` and a line's number
 unfoldable pub badLine : ℕ → List ℕ

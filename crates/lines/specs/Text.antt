@@ -32,9 +32,9 @@ abbrev pub nineDigit : ℕ
 nineDigit = 57
 
 -- the digits that s begins with
-abbrev pub run : List ℕ → List ℕ
-run [] = []
-run (b ∷ bs) = cond (ltb b zeroDigit) [] (cond (ltb nineDigit b) [] (b ∷ run bs))
+abbrev pub leadingDigits : List ℕ → List ℕ
+leadingDigits [] = []
+leadingDigits (b ∷ bs) = cond (ltb b zeroDigit) [] (cond (ltb nineDigit b) [] (b ∷ leadingDigits bs))
 
 -- the value of digits that follow a number v
 abbrev pub natFrom : ℕ → List ℕ → ℕ
@@ -62,5 +62,5 @@ plainOf lead from end value =
 unfoldable pub numberAt : List ℕ → ℕ → Numeral
 numberAt text at =
     cond (eqb (getD text at 0) minusSign)
-    (minusOf (getD text (at + 1) 0) (at + 1) (at + 1 + length (run (drop (at + 1) text))) (natFrom 0 (run (drop (at + 1) text))))
-    (plainOf (getD text at 0) at (at + length (run (drop at text))) (natFrom 0 (run (drop at text))))
+    (minusOf (getD text (at + 1) 0) (at + 1) (at + 1 + length (leadingDigits (drop (at + 1) text))) (natFrom 0 (leadingDigits (drop (at + 1) text))))
+    (plainOf (getD text at 0) at (at + length (leadingDigits (drop at text))) (natFrom 0 (leadingDigits (drop at text))))

@@ -7,8 +7,8 @@ ghost use Prim.Native.Nat.{_+_, _*_, _<_, _≤_};
 ghost use lib.IntN.{pos};
 ghost use lib.ListN.{length, getD};
 ghost use lib.Seq.{sets};
-ghost use Rattle.lines.specs.Inside.{digitsAt};
-ghost use Rattle.lines.specs.Lines.{past, closed, fieldAt, closing, figuresAt, kindAt};
+ghost use Rattle.lines.specs.InsideLines.{digitsAt};
+ghost use Rattle.lines.specs.Lines.{past, closedField, fieldAt, closeOf, figuresAt, kindAt};
 ghost use Rattle.lines.specs.Print.{natural, decimal, field, numbersLine};
 ghost use Rattle.lines.specs.Text.{startsWith, wordAt, minusOf, plainOf, numberAt};
 
@@ -18,7 +18,7 @@ pub const LONGEST: usize = 65536;
 pub const LOST: usize = LONGEST + 1;
 
 // Where a reader stands: its place, and the number of the line there; of a lost reader, of the bad line.
-pub struct Place {
+pub struct LineStart {
     pub at: usize,
     pub line: usize,
 }
@@ -180,7 +180,7 @@ pub fn past_word(text: &[u8], at: usize, word: &[u8]) -> usize
 
 // A number that ends at e, and the byte that closes its field.
 fn closed_field(text: &[u8], close: u8, v: i64, e: usize) -> Field
-    ensures { λ r. ⌜ r ≡ closed (now (text .entry)) close (Numeral.Value v e) ⌝ }
+    ensures { λ r. ⌜ r ≡ closedField (now (text .entry)) close (Numeral.Value v e) ⌝ }
 {
     if e < text.len() {
         if text[e] == close {
@@ -216,7 +216,7 @@ pub fn field_at(text: &[u8], at: usize, close: u8) -> Field
 
 // What closes a field after which `left` more come: a space, or a line feed.
 pub fn close_of(left: usize) -> u8
-    ensures { λ r. ⌜ r ≡ closing left ⌝ }
+    ensures { λ r. ⌜ r ≡ closeOf left ⌝ }
 {
     if left == 0 { b'\n' } else { b' ' }
 }
@@ -299,9 +299,9 @@ pub fn put_number(out: &mut [u8], at: usize, x: i64) -> usize
 {
     if x < 0 {
         out[at] = b'-';
-        return put_digits(out, at + 1, whole::size(x));
+        return put_digits(out, at + 1, whole::nat_abs(x));
     }
-    put_digits(out, at, whole::size(x))
+    put_digits(out, at, whole::nat_abs(x))
 }
 
 // The bytes of a word.

@@ -11,7 +11,7 @@ fn number(x: i64) {
     if x < 0 {
         text(b"-");
     }
-    io::print_decimal(STDOUT_FILENO, whole::size(x));
+    io::print_decimal(STDOUT_FILENO, whole::nat_abs(x));
 }
 
 fn count(x: u64) {

@@ -2,20 +2,20 @@
 -- rule on a list of words is to refuse a list that is not sound, and else to do its act. What is sound beyond the list's shape is
 -- the test `ok`, the ledger's own. What a reader believes; the laws are in `ActLaws`.
 use mathlib.Core.List.{List}
-use mathlib.Core.Bool.{Bool, true, false, cond, _&&_}
+use mathlib.Core.Bool.{Bool, cond, _&&_}
 use Prim.Native.Nat.{ℕ}
 use lib.Dec.{ltb, eqb}
 use lib.IntN.{ℤ, pos, natAbs}
 use lib.ListN.{length, getD}
-use Rattle.whole.specs.Number.{between}
+use Rattle.whole.specs.Number.{between, unless}
 use Rattle.places.specs.declared.Shape.{Shape}
-use Rattle.places.specs.Place.{size, View, Layout, Put, get, puts}
+use Rattle.places.specs.Place.{wordsOf, View, Layout, Put, get, puts}
 
 -- ---- a list of words that is a ledger
 
 -- a count that the words state: 1 to b, or 0 for none
-abbrev pub count : ℕ → ℤ → ℕ
-count b z = cond (between (pos 1) (pos b) z) (natAbs z) 0
+abbrev pub statedCount : ℕ → ℤ → ℕ
+statedCount b z = cond (between (pos 1) (pos b) z) (natAbs z) 0
 
 -- accounts n 1..64, products p 1..16
 abbrev pub mostAccounts : ℕ
@@ -25,10 +25,10 @@ abbrev pub mostProducts : ℕ
 mostProducts = 16
 
 abbrev pub shapeOf : List ℤ → Shape
-shapeOf W = record { n = count mostAccounts (getD W 0 (pos 0)); p = count mostProducts (getD W 1 (pos 0)) }
+shapeOf W = record { n = statedCount mostAccounts (getD W 0 (pos 0)); p = statedCount mostProducts (getD W 1 (pos 0)) }
 
 abbrev pub shapeOk : List ℤ → Shape → Bool
-shapeOk W s = ltb 0 (s .n) && ltb 0 (s .p) && eqb (length W) (size s)
+shapeOk W s = ltb 0 (s .n) && ltb 0 (s .p) && eqb (length W) (wordsOf s)
 
 -- the test of a ledger's places
 abbrev pub Test : Type 0
@@ -46,11 +46,6 @@ pub record Act (A : Type 0) : Type 0 where
 
 abbrev pub Rule : Type 0 → Type 0
 Rule A = Shape → View → Act A
-
--- the act o, unless the test fails: then the refusal
-abbrev pub unless : {A : Type 0} → Bool → Act A → Act A → Act A
-unless true refusal o = o
-unless false refusal o = refusal
 
 abbrev pub finish : {A : Type 0} → Layout → Shape → List ℤ → Act A → A × List ℤ
 finish L s W o = (o .answer, puts L s W (o .puts))

@@ -9,14 +9,14 @@ use native.Mathlib.Omega.{arith}
 use lib.Dec.{ltb, eqb}
 use lib.IntN.{ℤ, pos, natAbs}
 use lib.ListN.{length, getD}
-use Rattle.whole.specs.Number.{between}
+use Rattle.whole.specs.Number.{between, unless}
 use Rattle.whole.specs.Tests.{both, none, in-range}
 use Rattle.places.specs.declared.Shape.{Shape}
-use Rattle.places.specs.Place.{size, Layout, Put, get, puts}
+use Rattle.places.specs.Place.{wordsOf, Layout, Put, get, puts}
 use Rattle.places.specs.PlaceLaws.{Sized}
-use Rattle.places.specs.Act.{count, shapeOf, shapeOk, Test, soundBy, Act, Rule, unless, finish, performBy}
+use Rattle.places.specs.Act.{statedCount, shapeOf, shapeOk, Test, soundBy, Act, Rule, finish, performBy}
 
-pub count-le : (b : ℕ) (z : ℤ) → count b z ≤ b
+pub count-le : (b : ℕ) (z : ℤ) → statedCount b z ≤ b
 count-le b z = go (between (pos 1) (pos b) z) refl
   where
     go : (t : Bool) → between (pos 1) (pos b) z ≡ t → cond t (natAbs z) 0 ≤ b
@@ -32,11 +32,11 @@ pub record LedgerBy (ok : Test) (L : Layout) (s : Shape) (W : List ℤ) : Type 0
   pub places : ok s (get L s W) ≡ true
 
 module _ (ok : Test) (L : Layout) where
-  pub sized : (W : List ℤ) → soundBy ok L W ≡ true → length W ≡ size (shapeOf W)
+  pub sized : (W : List ℤ) → soundBy ok L W ≡ true → length W ≡ wordsOf (shapeOf W)
   unfolding soundBy
   sized W e =
       let h = both (shapeOk W (shapeOf W)) (ok (shapeOf W) (get L (shapeOf W) W)) e in
-      eqb-true (length W) (size (shapeOf W)) (both (ltb 0 (shapeOf W .n) && ltb 0 (shapeOf W .p)) (eqb (length W) (size (shapeOf W))) (h .0) .1)
+      eqb-true (length W) (wordsOf (shapeOf W)) (both (ltb 0 (shapeOf W .n) && ltb 0 (shapeOf W .p)) (eqb (length W) (wordsOf (shapeOf W))) (h .0) .1)
 
   -- the places of a sound list pass the test
   pub places-ok : (W : List ℤ) → soundBy ok L W ≡ true → ok (shapeOf W) (get L (shapeOf W) W) ≡ true
@@ -76,20 +76,20 @@ module _ (ok : Test) (L : Layout) where
   sound-at W s e = ap (λ t. shapeOk W t && ok t (get L t W)) (sym e)
 
   -- a list that has not the length of its shape is no ledger
-  pub not-sized : (W : List ℤ) → (length W ≡ size (shapeOf W) → ⊥) → soundBy ok L W ≡ false
+  pub not-sized : (W : List ℤ) → (length W ≡ wordsOf (shapeOf W) → ⊥) → soundBy ok L W ≡ false
   unfolding soundBy
-  not-sized W ne = rw (none (ltb 0 (shapeOf W .n) && ltb 0 (shapeOf W .p)) (eqb (length W) (size (shapeOf W))) (ne-eqb (length W) (size (shapeOf W)) ne))
+  not-sized W ne = rw (none (ltb 0 (shapeOf W .n) && ltb 0 (shapeOf W .p)) (eqb (length W) (wordsOf (shapeOf W))) (ne-eqb (length W) (wordsOf (shapeOf W)) ne))
 
   pub ledger-of : (W : List ℤ) → soundBy ok L W ≡ true → LedgerBy ok L (shapeOf W) W
   unfolding soundBy
   ledger-of W e =
       let h = both (shapeOk W (shapeOf W)) (ok (shapeOf W) (get L (shapeOf W) W)) e in
-      let k = both (ltb 0 (shapeOf W .n) && ltb 0 (shapeOf W .p)) (eqb (length W) (size (shapeOf W))) (h .0) in
+      let k = both (ltb 0 (shapeOf W .n) && ltb 0 (shapeOf W .p)) (eqb (length W) (wordsOf (shapeOf W))) (h .0) in
       let m = both (ltb 0 (shapeOf W .n)) (ltb 0 (shapeOf W .p)) (k .0) in
       record {
         some = ltb-true 0 (shapeOf W .n) (m .0);
         some′ = ltb-true 0 (shapeOf W .p) (m .1);
-        sized = record { few = count-le 64 (getD W 0 (pos 0)); few′ = count-le 16 (getD W 1 (pos 0)); sized = eqb-true (length W) (size (shapeOf W)) (k .1) };
+        sized = record { few = count-le 64 (getD W 0 (pos 0)); few′ = count-le 16 (getD W 1 (pos 0)); sized = eqb-true (length W) (wordsOf (shapeOf W)) (k .1) };
         shaped = refl;
         places = h .1;
       }
@@ -101,7 +101,7 @@ module _ (ok : Test) (L : Layout) where
   pub sound-of : (s : Shape) (W : List ℤ) → LedgerBy ok L s W → soundBy ok L W ≡ true
   sound-of s W l =
       sound-at W s (sym (l .shaped))
-      ∙ rw (lt-ltb 0 (s .n) (l .some), lt-ltb 0 (s .p) (l .some′), eq-eqb (length W) (size s) (l .sized .sized)) (l .places)
+      ∙ rw (lt-ltb 0 (s .n) (l .some), lt-ltb 0 (s .p) (l .some′), eq-eqb (length W) (wordsOf s) (l .sized .sized)) (l .places)
 
   -- what is performed on a ledger whose shape a function has read
   pub performed-at : {A : Type 0} (W : List ℤ) (refusal : Act A) (r : Rule A) (s : Shape) → LedgerBy ok L s W → performBy ok refusal L W r ≡ finish L s W (r s (get L s W))

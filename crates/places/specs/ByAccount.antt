@@ -1,65 +1,8 @@
--- The layout of 01, "The ledger's words": four words, five for each product, and for each account eight words and two for each product.
-use mathlib.Core.Path.{_≡_, refl, sym, ap, _∙_}
-use Prim.Native.Nat.{ℕ, _+_, _*_, _/_, _%_, _<_}
-use native.Mathlib.Omega.{arith}
-use lib.Arith.{digits-lt, digits-div, digits-mod}
-use Rattle.places.specs.declared.Shape.{Shape}
-use Rattle.places.specs.Place.{Place, heads, productFields, fields, heldFields, head, prod, acct, held, Has, size, Layout}
-
-abbrev pub recordSize : ℕ → ℕ
-recordSize p = fields + heldFields * p
-
-abbrev pub recordAt : ℕ → ℕ → ℕ
-recordAt p a = heads + productFields * p + a * recordSize p
-
-abbrev pub at : Shape → Place → ℕ
-at s (head k) = k
-at s (prod j f) = heads + productFields * j + f
-at s (acct a f) = recordAt (s .p) a + f
-at s (held a j f) = recordAt (s .p) a + (fields + heldFields * j + f)
-
--- an account's words in a row
-pub row : (s : Shape) (a f : ℕ) → at s (acct a f) ≡ at s (acct a 0) + f
-row s a f = omega arith
-
--- a record's word and another's: the same record, and the same word of it
-pub same-digits : (b m a f a′ f′ : ℕ) → f < m → f′ < m → b + a * m + f ≡ b + a′ * m + f′ → (a ≡ a′) × (f ≡ f′)
-same-digits b m a f a′ f′ h h′ e =
-    let d : a * m + f ≡ a′ * m + f′ = omega arith in
-    (sym (digits-div a h) ∙ ap (λ x. x / m) d ∙ digits-div a′ h′, sym (digits-mod a h) ∙ ap (λ x. x % m) d ∙ digits-mod a′ h′)
-
-pub record-inside : (p n a f : ℕ) → a < n → f < recordSize p → recordAt p a + f < heads + productFields * p + n * recordSize p
-record-inside p n a f h k = omega (arith, digits-lt {q = a} {m = n} {r = f} {c = recordSize p} h k)
-
-pub inside : (s : Shape) (q : Place) → Has s q → at s q < size s
-inside s (head k) h = omega arith
-inside s (prod j f) h = omega arith
-inside s (acct a f) h = record-inside (s .p) (s .n) a f (h .0) (omega arith)
-inside s (held a j f) h = record-inside (s .p) (s .n) a (fields + heldFields * j + f) (h .0) (omega arith)
-
-pub same : (s : Shape) (q r : Place) → Has s q → Has s r → at s q ≡ at s r → q ≡ r
-same s (head k) (head l) h h′ e = ap head e
-same s (head k) (prod j f) h h′ e = absurd (omega arith)
-same s (head k) (acct a f) h h′ e = absurd (omega arith)
-same s (head k) (held a j f) h h′ e = absurd (omega arith)
-same s (prod j f) (head k) h h′ e = absurd (omega arith)
-same s (prod j f) (prod j′ f′) h h′ e =
-    let i : j ≡ j′ = omega arith in let k : f ≡ f′ = omega arith in cc
-same s (prod j f) (acct a g) h h′ e = absurd (omega arith)
-same s (prod j f) (held a i g) h h′ e = absurd (omega arith)
-same s (acct a f) (head k) h h′ e = absurd (omega arith)
-same s (acct a f) (prod j g) h h′ e = absurd (omega arith)
-same s (acct a f) (acct b g) h h′ e =
-    let d : (a ≡ b) × (f ≡ g) = same-digits (heads + productFields * s .p) (recordSize (s .p)) a f b g (omega arith) (omega arith) e in cc
-same s (acct a f) (held b j g) h h′ e =
-    let d : (a ≡ b) × (f ≡ fields + heldFields * j + g) = same-digits (heads + productFields * s .p) (recordSize (s .p)) a f b (fields + heldFields * j + g) (omega arith) (omega arith) e in absurd (omega arith)
-same s (held a i f) (head k) h h′ e = absurd (omega arith)
-same s (held a i f) (prod j g) h h′ e = absurd (omega arith)
-same s (held a i f) (acct b g) h h′ e =
-    let d : (a ≡ b) × (fields + heldFields * i + f ≡ g) = same-digits (heads + productFields * s .p) (recordSize (s .p)) a (fields + heldFields * i + f) b g (omega arith) (omega arith) e in absurd (omega arith)
-same s (held a i f) (held b j g) h h′ e =
-    let d : (a ≡ b) × (fields + heldFields * i + f ≡ fields + heldFields * j + g) = same-digits (heads + productFields * s .p) (recordSize (s .p)) a (fields + heldFields * i + f) b (fields + heldFields * j + g) (omega arith) (omega arith) e in
-    let y : i ≡ j = omega arith in let z : f ≡ g = omega arith in cc
+-- The layout by account: 01's words (`ByAccountWords`), with the laws that every layout has. What a reader believes of it is `at`.
+use mathlib.Core.Path.{refl}
+use Rattle.places.specs.Place.{Layout}
+use Rattle.places.specs.ByAccountWords.{at}
+use Rattle.places.specs.ByAccountLaws.{row, inside, same}
 
 -- shut: what stands above the functions `.._at` knows its laws alone
 unfoldable pub byAccount : Layout

@@ -12,7 +12,7 @@ use lib.IntN.{ℤ}
 use lib.ListN.{length}
 use Rattle.whole.specs.Tests.{clash}
 use Rattle.places.specs.declared.Shape.{Shape}
-use Rattle.places.specs.Place.{Place, Has, View, Layout, Put, _≔_, size, get, puts, each}
+use Rattle.places.specs.Place.{Place, Has, View, Layout, Put, _≔_, wordsOf, get, puts, each}
 use Rattle.places.specs.PlaceLaws.{Sized, Each, each-map, get-put-same, get-puts, length-puts, puts-append}
 
 -- two views that say the same at the places of P
@@ -65,7 +65,7 @@ module _ (L : Layout) (s : Shape) (P : Place → Bool) where
 module _ (L : Layout) (s : Shape) (q : Place) (hq : Has s q) (v : ℤ) where
   -- puts that leave v at q, whatever the words before them
   abbrev pub Leaves : List Put → Type 0
-  Leaves us = (X : List ℤ) → length X ≡ size s → get L s (puts L s X us) q ≡ v
+  Leaves us = (X : List ℤ) → length X ≡ wordsOf s → get L s (puts L s X us) q ≡ v
 
   -- puts at other places
   abbrev pub Elsewhere : List Put → Type 0

@@ -89,15 +89,15 @@ Has s (acct a f) = (a < s .n) × (f < fields)
 Has s (held a j f) = (a < s .n) × (j < s .p) × (f < heldFields)
 
 -- the words of a ledger of this shape
-abbrev pub size : Shape → ℕ
-size s = heads + productFields * s .p + s .n * (fields + heldFields * s .p)
+abbrev pub wordsOf : Shape → ℕ
+wordsOf s = heads + productFields * s .p + s .n * (fields + heldFields * s .p)
 
 -- A layout gives each place of a shape a word of its own. In each the head's words stand first, and an account's words in a row.
 pub record Layout : Type 0 where
   pub at : Shape → Place → ℕ
   pub first : (s : Shape) (k : ℕ) → at s (head k) ≡ k
   pub row : (s : Shape) (a f : ℕ) → at s (acct a f) ≡ at s (acct a 0) + f
-  pub inside : (s : Shape) (q : Place) → Has s q → at s q < size s
+  pub inside : (s : Shape) (q : Place) → Has s q → at s q < wordsOf s
   pub same : (s : Shape) (q r : Place) → Has s q → Has s r → at s q ≡ at s r → q ≡ r
 
 -- what a ledger says at each place

@@ -9,16 +9,16 @@ use lib.IntN.{ℤ, pos}
 use lib.ListN.{length, getD, set, length-set}
 use lib.Seq.{getD-set-same, getD-set-other, set-comm}
 use Rattle.places.specs.declared.Shape.{Shape}
-use Rattle.places.specs.Place.{Place, head, acct, fields, Has, size, Layout, Put, get, put, puts, each}
+use Rattle.places.specs.Place.{Place, head, acct, fields, Has, wordsOf, Layout, Put, get, put, puts, each}
 
 -- a list of as many words as a ledger of this shape has, with the paper's bounds on the counts
 pub record Sized (s : Shape) (W : List ℤ) : Type 0 where
   pub few : s .n ≤ 64
   pub few′ : s .p ≤ 16
-  pub sized : length W ≡ size s
+  pub sized : length W ≡ wordsOf s
 
 module _ (L : Layout) (s : Shape) where
-  pub get-put-same : (W : List ℤ) (q : Place) (v : ℤ) → length W ≡ size s → Has s q → get L s (put L s W q v) q ≡ v
+  pub get-put-same : (W : List ℤ) (q : Place) (v : ℤ) → length W ≡ wordsOf s → Has s q → get L s (put L s W q v) q ≡ v
   get-put-same W q v e h = getD-set-same W (L .at s q) v (pos 0) (rw e (L .inside s q h))
 
   apart : (q r : Place) → Has s q → Has s r → q ≢ r → L .at s q ≢ L .at s r
@@ -53,7 +53,7 @@ module _ (L : Layout) (s : Shape) (W : List ℤ) (a r : ℕ) (e : r ≡ L .at s 
   pub row-word : (f : ℕ) → getD W (r + f) (pos 0) ≡ get L s W (acct a f)
   row-word f = ap (λ i. getD W i (pos 0)) (row-at f)
 
-  pub row-inside : (f : ℕ) → length W ≡ size s → a < s .n → f < fields → r + f < length W
+  pub row-inside : (f : ℕ) → length W ≡ wordsOf s → a < s .n → f < fields → r + f < length W
   row-inside f l h k = rw (row-at f, l) (L .inside s (acct a f) (h, k))
 
 -- ---- lists of puts

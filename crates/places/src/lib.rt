@@ -2,7 +2,7 @@
 // them no index is seen (01, "The ledger's words").
 ghost use mathlib.Core.Path.{_≡_};
 ghost use Prim.Native.Nat.{_<_, _≤_};
-ghost use Rattle.places.specs.Place.{Has, head, prod, acct, held, get, put, size};
+ghost use Rattle.places.specs.Place.{Has, head, prod, acct, held, get, put, wordsOf};
 ghost use Rattle.places.specs.PlaceLaws.{Sized};
 ghost use Rattle.places.specs.ByAccount.{byAccount};
 
@@ -59,7 +59,7 @@ pub const BOOK: usize = 1;
 // How many words a ledger has.
 pub fn words_of(s: Shape) -> usize
     requires { ⌜ (s .n ≤ 64) × (s .p ≤ 16) ⌝ }
-    ensures { λ r. ⌜ r ≡ size s ⌝ }
+    ensures { λ r. ⌜ r ≡ wordsOf s ⌝ }
 {
     let n = s.n;
     let p = s.p;
@@ -69,7 +69,7 @@ pub fn words_of(s: Shape) -> usize
 fn prod_at(s: Shape, j: usize, f: usize) -> usize
     requires { ⌜ (s .n ≤ 64) × (s .p ≤ 16) ⌝ }
     requires { ⌜ Has s (prod j f) ⌝ }
-    ensures { λ r. ⌜ (r ≡ byAccount .at s (prod j f)) × (r < size s) ⌝ }
+    ensures { λ r. ⌜ (r ≡ byAccount .at s (prod j f)) × (r < wordsOf s) ⌝ }
 {
     HEADS + PRODUCT_FIELDS * j + f
 }
@@ -77,7 +77,7 @@ fn prod_at(s: Shape, j: usize, f: usize) -> usize
 pub fn acct_at(s: Shape, a: usize, f: usize) -> usize
     requires { ⌜ (s .n ≤ 64) × (s .p ≤ 16) ⌝ }
     requires { ⌜ Has s (acct a f) ⌝ }
-    ensures { λ r. ⌜ (r ≡ byAccount .at s (acct a f)) × (r < size s) ⌝ }
+    ensures { λ r. ⌜ (r ≡ byAccount .at s (acct a f)) × (r < wordsOf s) ⌝ }
 {
     let p = s.p;
     HEADS + PRODUCT_FIELDS * p + a * (FIELDS + HELD_FIELDS * p) + f
@@ -86,7 +86,7 @@ pub fn acct_at(s: Shape, a: usize, f: usize) -> usize
 fn held_at(s: Shape, a: usize, j: usize, f: usize) -> usize
     requires { ⌜ (s .n ≤ 64) × (s .p ≤ 16) ⌝ }
     requires { ⌜ Has s (held a j f) ⌝ }
-    ensures { λ r. ⌜ (r ≡ byAccount .at s (held a j f)) × (r < size s) ⌝ }
+    ensures { λ r. ⌜ (r ≡ byAccount .at s (held a j f)) × (r < wordsOf s) ⌝ }
 {
     let p = s.p;
     HEADS + PRODUCT_FIELDS * p + a * (FIELDS + HELD_FIELDS * p) + (FIELDS + HELD_FIELDS * j + f)

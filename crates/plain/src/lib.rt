@@ -9,7 +9,7 @@ use lines::Numeral;
 ghost use mathlib.Core.Path.{_≡_};
 ghost use Prim.Native.Nat.{_+_, _≤_, _<_};
 ghost use lib.ListN.{length};
-ghost use Rattle.dayfile.specs.Inside.{Modest};
+ghost use Rattle.dayfile.specs.InsideDayfile.{Modest};
 
 // The longest explanation.
 const ROOM: usize = 512;
@@ -378,6 +378,6 @@ pub fn explain_bad(text: &[u8], sheet: &[u8], out: &mut [u8]) -> usize
         return 0;
     }
     let bad = lines::field_at(sheet, at, b'\n');
-    let line = whole::size(bad.value) as usize;
+    let line = whole::nat_abs(bad.value) as usize;
     explain(text, line, out)
 }

@@ -8,8 +8,8 @@ use native.Mathlib.Nat.{add-suc, add-zero}
 use native.Mathlib.Omega.{arith}
 use lib.Dec.{ltb, eqb}
 use borrow.Author.Tests.{ltb-true, ltb-false, eqb-true, eqb-false, lt-ltb, le-ltb, eq-eqb}
-use Rattle.whole.specs.Below.{count, one-if}
-use Rattle.whole.specs.BelowLaws.{total-same, total-le, total-add, count-lt, count-none, count-all, count-once}
+use Rattle.whole.specs.Counting.{howMany, one-if}
+use Rattle.whole.specs.CountingLaws.{total-same, total-le, total-add, count-lt, count-none, count-all, count-once}
 use Rattle.whole.specs.Signs.{false-true}
 use Rattle.whole.specs.Tests.{is-false, clash}
 use Rattle.portions.specs.Share.{comes, before, place}
@@ -92,7 +92,7 @@ module _ (n : ℕ) (r : ℕ → ℕ) where
   apart i j b c e = ⊎-elim (λ h. omega (arith, place-lt i j (omega arith) h)) (λ h. omega (arith, place-lt j i c h)) (one-first r i j b)
 
   abbrev pub served : ℕ → ℕ
-  served l = count n (λ i. ltb (place n r i) l)
+  served l = howMany n (λ i. ltb (place n r i) l)
 
   next : (l p : ℕ) → one-if (ltb p (suc l)) ≤ one-if (ltb p l) + one-if (eqb p l)
   next l p = go (ltb p l) (eqb p l) refl refl

@@ -7,7 +7,7 @@ use Prim.Native.Nat.{ℕ, _+_, _*_, _-_, _/_, _%_}
 use lib.Dec.{ltb, eqb}
 use lib.IntN.{ℤ, pos}
 use lib.ListN.{length, getD}
-use Rattle.whole.specs.Below.{total, count, one-if, listed}
+use Rattle.whole.specs.Counting.{total, howMany, one-if, listed}
 
 -- member j with the remainder x comes before member i with the remainder y: his is larger, or the same and his number is lower
 abbrev pub comes : ℕ → ℕ → ℕ → ℕ → Bool
@@ -18,7 +18,7 @@ before remainder j i = comes (remainder j) j (remainder i) i
 
 -- how many of n members come before i
 unfoldable pub place : ℕ → (ℕ → ℕ) → ℕ → ℕ
-place n remainder i = count n (λ j. before remainder j i)
+place n remainder i = howMany n (λ j. before remainder j i)
 
 -- n members, their weights, and the amount to share among them
 module _ (n : ℕ) (weight : ℕ → ℕ) (amount : ℕ) where

@@ -7,8 +7,8 @@ use native.Mathlib.Nat.{div-add-mod', mod-lt, mul-zero, zero-mul, mul-comm, le-o
 use native.Mathlib.Omega.{arith}
 use lib.Dec.{ltb}
 use borrow.Author.Tests.{ltb-true, ltb-false, lt-ltb, eq-eqb, ne-eqb}
-use Rattle.whole.specs.Below.{total, count, one-if}
-use Rattle.whole.specs.BelowLaws.{total-same, total-le, total-add, total-times, total-one, count-le, count-all}
+use Rattle.whole.specs.Counting.{total, howMany, one-if}
+use Rattle.whole.specs.CountingLaws.{total-same, total-le, total-add, total-times, total-one, count-le, count-all}
 use Rattle.whole.specs.Tests.{true-or-false}
 use Rattle.portions.specs.Share.{before, place, floorOf, remainderOf, left, shareOf}
 use Rattle.portions.specs.Order.{is-before, place-lt, place-same, served-is}
@@ -65,13 +65,13 @@ module _ (n : ℕ) (weight : ℕ → ℕ) (amount : ℕ) (some : 0 < total n wei
   rem-most : (i : ℕ) → rem i ≤ one-if (some-left i) * whole
   rem-most i = ⊎-elim (λ e. rw e (omega (arith, rem-lt i))) (λ e. omega (arith, ltb-false 0 (rem i) e)) (true-or-false (some-left i))
 
-  left-le : left n weight amount ≤ count n some-left
+  left-le : left n weight amount ≤ howMany n some-left
   left-le =
       le-of-mul-le-mul-right
       (omega (arith, left-rems, total-le n rem (λ i. one-if (some-left i) * whole) (λ i b. rem-most i), total-times n (λ i. one-if (some-left i)) whole))
       some
 
-  count-most : (p : ℕ → Bool) → count n p ≤ n
+  count-most : (p : ℕ → Bool) → howMany n p ≤ n
   count-most p = omega (arith, count-all n (λ i. true) (λ i b. refl), count-le n p (λ i. true) (λ i b e. refl))
 
   pub left-most : left n weight amount ≤ n
@@ -82,7 +82,7 @@ module _ (n : ℕ) (weight : ℕ → ℕ) (amount : ℕ) (some : 0 < total n wei
   unfolding place
   extra-some i h = ⊎-elim (λ e. ltb-true 0 (rem i) e) (λ e. absurd (omega (arith, left-le, all-before (ltb-false 0 (rem i) e)))) (true-or-false (some-left i))
     where
-      all-before : rem i ≤ 0 → count n some-left ≤ count n (λ j. before rem j i)
+      all-before : rem i ≤ 0 → howMany n some-left ≤ howMany n (λ j. before rem j i)
       all-before z = count-le n some-left (λ j. before rem j i) (λ j b e. is-before rem j i (inl (omega (arith, ltb-true 0 (rem j) e))))
 
   -- THE SHARES ADD EXACTLY TO THE AMOUNT

@@ -4,7 +4,7 @@ ghost use mathlib.Core.Path.{_≡_};
 ghost use Prim.Native.Nat.{ℕ, _+_, _≤_, _<_};
 ghost use lib.IntN.{pos, natAbs, _+ℤ_};
 ghost use lib.ListN.{length, getD};
-ghost use Rattle.whole.specs.Below.{one-if, listed};
+ghost use Rattle.whole.specs.Counting.{one-if, listed};
 ghost use Rattle.whole.specs.Listed.{filled};
 ghost use Rattle.whole.specs.Reps.{Each};
 ghost use Rattle.portions.specs.Share as S;

@@ -4,7 +4,7 @@ use Prim.Native.Nat.{ℕ, _+_}
 use lib.Dec.{leb}
 use lib.IntN.{ℤ, pos, natAbs, _+ℤ_, _-ℤ_, _*ℤ_}
 use lib.Signed.{ltZ}
-use Rattle.whole.specs.Number.{is, between, minZ, maxZ, below, floorDiv}
+use Rattle.whole.specs.Number.{is, between, minZ, maxZ, takesAway, floorDiv}
 use Rattle.rules.specs.Sizes.{mostGuarantee, mostGross, mostMargin}
 use Rattle.rules.specs.declared.Account.{Account}
 
@@ -30,11 +30,11 @@ firstShortfall account = maxZ (pos 0) (requiredOf account -ℤ depositOf account
 
 -- Source 001, 2(16): the next-day need is 0 unless due 1 is negative; then |due 1| minus due 0, or 0 if that is negative.
 unfoldable pub nextDayNeed : Account → ℤ
-nextDayNeed account = cond (ltZ (account .due1) (pos 0)) (maxZ (pos 0) (below (account .due1) -ℤ account .due0)) (pos 0)
+nextDayNeed account = cond (ltZ (account .due1) (pos 0)) (maxZ (pos 0) (takesAway (account .due1) -ℤ account .due0)) (pos 0)
 
 -- Source 001, article 6: F, what due 0 takes away (its absolute value if negative, else 0) minus cash, or 0; L, next-day need minus cash, or 0.
 unfoldable pub secondShortfall : Account → ℤ
-secondShortfall account = maxZ (pos 0) (cond (isBroker account) (below (account .due0)) (nextDayNeed account) -ℤ account .cash)
+secondShortfall account = maxZ (pos 0) (cond (isBroker account) (takesAway (account .due0)) (nextDayNeed account) -ℤ account .cash)
 
 -- Source 001, article 8: excess one is deposit minus required.
 unfoldable pub excessOne : Account → ℤ
@@ -45,7 +45,7 @@ unfoldable pub excessTwo : Account → ℤ
 excessTwo account =
     cond (isBroker account)
     (account .cash +ℤ account .due0 -ℤ account .margin)
-    (account .cash +ℤ account .due1 -ℤ account .margin -ℤ below (account .due0))
+    (account .cash +ℤ account .due1 -ℤ account .margin -ℤ takesAway (account .due0))
 
 -- Source 001, article 8: the least of cash and the two excesses, or 0 if that is negative. Cash is the cash now (house).
 unfoldable pub limitOf : Account → ℤ

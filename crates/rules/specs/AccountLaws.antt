@@ -8,7 +8,7 @@ use lib.Dec.{leb}
 use lib.IntN.{ℤ, pos, natAbs}
 use lib.Signed.{ltZ, _≤ℤ_}
 use borrow.Author.Tests.{leb-true}
-use Rattle.whole.specs.Number.{between, below}
+use Rattle.whole.specs.Number.{between, takesAway}
 use Rattle.whole.specs.Whole.{whole, facts, by}
 use Rattle.whole.specs.Tests.{both, InRange, in-range, true-or-false}
 use Rattle.rules.specs.Sizes.{mostGuarantee, mostGross, mostMargin}
@@ -94,7 +94,7 @@ unfolding requiredOf
 required-in a e = let i = account-facts a e in by (search whole depth 20) (omega facts)
 
 pub need-in : (a : Account) → accountOk a ≡ true → natAbs (nextDayNeed a) ≤ 2000000000000000
-unfolding nextDayNeed below
+unfolding nextDayNeed takesAway
 need-in a e =
     let i = account-facts a e in
     ⊎-elim (λ h. by (search whole depth 20) (omega facts)) (λ h. by (search whole depth 20) (omega facts)) (true-or-false (ltZ (a .due1) (pos 0)))

@@ -2,14 +2,14 @@
 --   Sizes        the ranges of 01, "Units and sizes"
 --   Product      rate, Y, margin and daily difference of one product
 --   Account      the margin rules on one account: LG value, deposit, required margin, shortfalls, excesses, limit; gross; a sound record
---   Calls        what a deposit, a withdrawal, a guarantee call, a transfer and a question do to one account
+--   AccountCalls        what a deposit, a withdrawal, a guarantee call, a transfer and a question do to one account
 --   ProductLaws  the figures of one product are bounded
 --   AccountLaws  the figures of a sound account are bounded
---   CallsLaws    the calls keep a sound account sound and change what they name alone; a withdrawal is taken exactly up to the limit
+--   AccountCallsLaws    the calls keep a sound account sound and change what they name alone; a withdrawal is taken exactly up to the limit
 pub mod Sizes
 pub mod Product
 pub mod Account
-pub mod Calls
+pub mod AccountCalls
 pub mod ProductLaws
 pub mod AccountLaws
-pub mod CallsLaws
+pub mod AccountCallsLaws

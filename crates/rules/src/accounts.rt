@@ -15,17 +15,17 @@ pub fn is_broker(account: Account) -> bool
     ensures { λ r. ⌜ r ≡ isBroker account ⌝ }
 {
     let kind = account.kind;
-    whole::within(kind, 0, 0)
+    whole::between(kind, 0, 0)
 }
 
 // Whether the sizes of cash and the three dues come to at most 10^15. Each is tested before it is added: no sum passes 64 bits.
 fn gross_within(cash: i64, due0: i64, due1: i64, due2: i64) -> bool
     ensures { λ r. ⌜ r ≡ leb (natAbs cash + natAbs due0 + natAbs due1 + natAbs due2) mostGross ⌝ }
 {
-    let cash_size = whole::size(cash);
-    let due0_size = whole::size(due0);
-    let due1_size = whole::size(due1);
-    let due2_size = whole::size(due2);
+    let cash_size = whole::nat_abs(cash);
+    let due0_size = whole::nat_abs(due0);
+    let due1_size = whole::nat_abs(due1);
+    let due2_size = whole::nat_abs(due2);
     if cash_size > sizes::MOST_GROSS {
         return false;
     }
@@ -72,16 +72,16 @@ pub fn account_ok(account: Account) -> bool
     let cap = account.cap;
     let margin = account.margin;
     let limit = guarantee_limit(account);
-    if !whole::within(kind, 0, 1) {
+    if !whole::between(kind, 0, 1) {
         return false;
     }
-    if !whole::within(guarantee, 0, limit) {
+    if !whole::between(guarantee, 0, limit) {
         return false;
     }
-    if !whole::within(cap, 0, limit) {
+    if !whole::between(cap, 0, limit) {
         return false;
     }
-    if !whole::within(margin, 0, sizes::MOST_MARGIN) {
+    if !whole::between(margin, 0, sizes::MOST_MARGIN) {
         return false;
     }
     gross_ok(account)
@@ -94,7 +94,7 @@ pub fn lg_value(account: Account) -> i64
 {
     let guarantee = account.guarantee;
     let cap = account.cap;
-    whole::lower(guarantee * 99 / 100, cap)
+    whole::min(guarantee * 99 / 100, cap)
 }
 
 // Source 001, 2(2): the deposit.
@@ -123,7 +123,7 @@ pub fn first_shortfall(account: Account) -> i64
     requires { ⌜ accountOk account ≡ true ⌝ }
     ensures { λ r. ⌜ r ≡ firstShortfall account ⌝ }
 {
-    whole::upper(0, required_of(account) - deposit_of(account))
+    whole::max(0, required_of(account) - deposit_of(account))
 }
 
 // Source 001, 2(16): the next-day need of an L.
@@ -134,7 +134,7 @@ pub fn next_day_need(account: Account) -> i64
     let due0 = account.due0;
     let due1 = account.due1;
     if due1 < 0 {
-        return whole::upper(0, whole::below(due1) - due0);
+        return whole::max(0, whole::takes_away(due1) - due0);
     }
     0
 }
@@ -147,9 +147,9 @@ pub fn second_shortfall(account: Account) -> i64
     let cash = account.cash;
     let due0 = account.due0;
     if is_broker(account) {
-        return whole::upper(0, whole::below(due0) - cash);
+        return whole::max(0, whole::takes_away(due0) - cash);
     }
-    whole::upper(0, next_day_need(account) - cash)
+    whole::max(0, next_day_need(account) - cash)
 }
 
 // Source 001, article 8: excess one.
@@ -172,7 +172,7 @@ pub fn excess_two(account: Account) -> i64
     if is_broker(account) {
         return cash + due0 - margin;
     }
-    cash + due1 - margin - whole::below(due0)
+    cash + due1 - margin - whole::takes_away(due0)
 }
 
 // Source 001, article 8: what may be withdrawn.
@@ -181,8 +181,8 @@ pub fn limit_of(account: Account) -> i64
     ensures { λ r. ⌜ r ≡ limitOf account ⌝ }
 {
     let cash = account.cash;
-    whole::upper(
+    whole::max(
         0,
-        whole::lower(cash, whole::lower(excess_one(account), excess_two(account))),
+        whole::min(cash, whole::min(excess_one(account), excess_two(account))),
     )
 }

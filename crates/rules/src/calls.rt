@@ -4,7 +4,7 @@ ghost use mathlib.Core.Path.{_≡_};
 ghost use mathlib.Core.Bool.{true};
 ghost use Rattle.rules.specs.Sizes.{amountOk};
 ghost use Rattle.rules.specs.Account.{accountOk};
-ghost use Rattle.rules.specs.Calls as C;
+ghost use Rattle.rules.specs.AccountCalls as C;
 use crate::Account;
 use crate::Standing;
 use crate::Taken;
@@ -15,14 +15,14 @@ use crate::sizes;
 pub fn amount_ok(x: i64) -> bool
     ensures { λ r. ⌜ r ≡ amountOk x ⌝ }
 {
-    whole::within(x, 1, sizes::MOST_AMOUNT)
+    whole::between(x, 1, sizes::MOST_AMOUNT)
 }
 
 // Whether a guarantee or a cap may be of x yen.
 fn guarantee_ok(x: i64) -> bool
     ensures { λ r. ⌜ r ≡ C.guaranteeOk x ⌝ }
 {
-    whole::within(x, 0, sizes::MOST_GUARANTEE)
+    whole::between(x, 0, sizes::MOST_GUARANTEE)
 }
 
 fn with_cash(account: Account, cash: i64) -> Account

@@ -13,7 +13,7 @@ use crate::sizes;
 pub fn is_yen(kind: i64) -> bool
     ensures { λ r. ⌜ r ≡ isYen kind ⌝ }
 {
-    whole::within(kind, 0, 0)
+    whole::between(kind, 0, 0)
 }
 
 // The highest price of a product of this kind.
@@ -42,14 +42,14 @@ pub fn most_book(kind: i64) -> u64
 fn least_rate(mark: i64) -> i64
     ensures { λ r. ⌜ r ≡ leastRate mark ⌝ }
 {
-    if whole::within(mark, 0, 0) { 0 } else { 400 }
+    if whole::between(mark, 0, 0) { 0 } else { 400 }
 }
 
 // Source 001, article 4: the larger of the two rates, and at least the floor.
 pub fn rate_of(mark: i64, rate8: i64, rate104: i64) -> i64
     ensures { λ r. ⌜ r ≡ rateOf mark rate8 rate104 ⌝ }
 {
-    whole::upper(whole::upper(rate8, rate104), least_rate(mark))
+    whole::max(whole::max(rate8, rate104), least_rate(mark))
 }
 
 // The number of the product whose price is Y, for the product j: a cross's margin goes by its principal currency, never by its quote's.
@@ -61,7 +61,7 @@ pub fn yen_product(product: Product, j: usize) -> usize
     if is_yen(kind) {
         return j;
     }
-    whole::size(principal) as usize
+    whole::nat_abs(principal) as usize
 }
 
 // Source 001, 2(13): the margin of a position, rounded up.
@@ -71,7 +71,7 @@ pub fn margin_of(lots: i64, y: i64, rate: i64) -> i64
     requires { ⌜ pos 1 ≤ℤ rate ⌝ ∗ ⌜ rate ≤ℤ pos mostRate ⌝ }
     ensures { λ r. ⌜ r ≡ pos (marginOf lots y rate) ⌝ }
 {
-    let unrounded = whole::size(lots) * whole::up(y) * whole::up(rate);
+    let unrounded = whole::nat_abs(lots) * whole::up(y) * whole::up(rate);
     whole::ceil_lakh(unrounded) as i64
 }
 

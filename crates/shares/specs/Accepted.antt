@@ -9,14 +9,15 @@ use borrow.Author.Tests.{leb-true, eqb-true}
 use lib.IntN.{ℤ, pos, negsuc, natAbs}
 use lib.Signed.{leZ, _≤ℤ_}
 use lib.ListN.{length}
+use Rattle.whole.specs.Counting.{figureAt}
 use Rattle.whole.specs.Number.{between}
-use Rattle.whole.specs.BelowLaws.{all-at}
+use Rattle.whole.specs.CountingLaws.{all-at}
 use Rattle.whole.specs.Reps.{Each}
 use Rattle.whole.specs.Tests.{both, in-range}
 use Rattle.whole.specs.Whole.{true-le}
 use Rattle.whole.specs.Listed.{each-of}
 use Rattle.portions.specs.Bounds.{most-members}
-use Rattle.shares.specs.Loss.{word, most-loss, most-figure, memberOk, membersOk, lengthsOk, refusal}
+use Rattle.shares.specs.Loss.{most-loss, most-figure, memberOk, membersOk, oneLength, refusal}
 
 -- six lists, one of them scratch for the weights, have one length
 pub record Lengths (n differences marks weights first second : ℕ) : Type 0 where
@@ -28,7 +29,7 @@ pub record Lengths (n differences marks weights first second : ℕ) : Type 0 whe
   pub first-same : first ≡ n
   pub second-same : second ≡ n
 
-pub lengths-say : (n differences marks first second : ℕ) → lengthsOk n differences marks first second ≡ true → Lengths n differences marks n first second
+pub lengths-say : (n differences marks first second : ℕ) → oneLength n differences marks first second ≡ true → Lengths n differences marks n first second
 lengths-say n differences marks first second e =
     let e1 = both (leb 1 n) _ e in
     let e2 = both (leb n most-members) _ (e1 .1) in
@@ -66,21 +67,21 @@ none true false u e = absurd (omega arith)
 none false t u e = absurd (omega arith)
 
 module _ (loss : ℤ) (deposits differences marks : List ℤ) (first second : ℕ) (not-refused : refusal loss deposits differences marks first second ≡ 0) where
-  tests : (lengthsOk (length deposits) (length differences) (length marks) first second ≡ true) × (between (pos 0) (pos most-loss) loss ≡ true) × (membersOk deposits differences marks ≡ true)
+  tests : (oneLength (length deposits) (length differences) (length marks) first second ≡ true) × (between (pos 0) (pos most-loss) loss ≡ true) × (membersOk deposits differences marks ≡ true)
   unfolding refusal
-  tests = none (lengthsOk (length deposits) (length differences) (length marks) first second) (between (pos 0) (pos most-loss) loss) (membersOk deposits differences marks) not-refused
+  tests = none (oneLength (length deposits) (length differences) (length marks) first second) (between (pos 0) (pos most-loss) loss) (membersOk deposits differences marks) not-refused
 
   lengths : Lengths (length deposits) (length differences) (length marks) (length deposits) first second
   lengths = lengths-say (length deposits) (length differences) (length marks) first second (tests .0)
 
-  member : (i : ℕ) → i < length deposits → memberOk (word deposits i) (word differences i) (word marks i) ≡ true
-  member = all-at (length deposits) (λ i. memberOk (word deposits i) (word differences i) (word marks i)) (tests .2)
+  member : (i : ℕ) → i < length deposits → memberOk (figureAt deposits i) (figureAt differences i) (figureAt marks i) ≡ true
+  member = all-at (length deposits) (λ i. memberOk (figureAt deposits i) (figureAt differences i) (figureAt marks i)) (tests .2)
 
-  deposit : (i : ℕ) → i < length deposits → natAbs (word deposits i) ≤ most-figure
-  deposit i b = in-range 0 most-figure (word deposits i) (both (between (pos 0) (pos most-figure) (word deposits i)) _ (member i b) .0) .high
+  deposit : (i : ℕ) → i < length deposits → natAbs (figureAt deposits i) ≤ most-figure
+  deposit i b = in-range 0 most-figure (figureAt deposits i) (both (between (pos 0) (pos most-figure) (figureAt deposits i)) _ (member i b) .0) .high
 
-  difference : (i : ℕ) → i < length deposits → natAbs (word differences i) ≤ most-figure
-  difference i b = difference-says (word differences i) (both (between (negsuc 999999999999) (pos 1000000000000) (word differences i)) _ (both (between (pos 0) (pos most-figure) (word deposits i)) _ (member i b) .1) .0)
+  difference : (i : ℕ) → i < length deposits → natAbs (figureAt differences i) ≤ most-figure
+  difference i b = difference-says (figureAt differences i) (both (between (negsuc 999999999999) (pos 1000000000000) (figureAt differences i)) _ (both (between (pos 0) (pos most-figure) (figureAt deposits i)) _ (member i b) .1) .0)
 
   pub accepted : Accepted loss deposits differences marks first second
   accepted =

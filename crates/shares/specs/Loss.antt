@@ -5,16 +5,12 @@ use mathlib.Core.List.{List}
 use Prim.Native.Nat.{ℕ, _-_, min}
 use lib.Dec.{leb, eqb}
 use lib.IntN.{ℤ, pos, negℤ, natAbs}
-use lib.ListN.{length, getD}
+use lib.ListN.{length}
 use Rattle.whole.specs.Number.{between, is, pp, nn}
-use Rattle.whole.specs.Below.{all, total, listed}
+use Rattle.whole.specs.Counting.{all, total, listed, figureAt}
 use Rattle.portions.specs.Share.{shareOf}
 use Rattle.portions.specs.Bounds.{most-members}
 use Rattle.rules.specs.declared.Reply.{Reply}
-
--- member i's figure in a list
-abbrev pub word : List ℤ → ℕ → ℤ
-word figures i = getD figures i (pos 0)
 
 -- ---- what is refused ("Units and sizes", "Numbers returned")
 
@@ -26,8 +22,8 @@ abbrev pub most-figure : ℕ
 most-figure = 1000000000000
 
 -- the five lists have one length, 1 to 64
-abbrev pub lengthsOk : ℕ → ℕ → ℕ → ℕ → ℕ → Bool
-lengthsOk n differences marks first second = leb 1 n && (leb n most-members && (eqb differences n && (eqb marks n && (eqb first n && eqb second n))))
+abbrev pub oneLength : ℕ → ℕ → ℕ → ℕ → ℕ → Bool
+oneLength n differences marks first second = leb 1 n && (leb n most-members && (eqb differences n && (eqb marks n && (eqb first n && eqb second n))))
 
 -- a member's deposit, difference and mark are in range, a defaulter's too
 abbrev pub memberOk : ℤ → ℤ → ℤ → Bool
@@ -35,12 +31,12 @@ memberOk deposit difference mark =
     between (pos 0) (pos most-figure) deposit && (between (negℤ (pos most-figure)) (pos most-figure) difference && between (pos 0) (pos 1) mark)
 
 abbrev pub membersOk : List ℤ → List ℤ → List ℤ → Bool
-membersOk deposits differences marks = all (length deposits) (λ i. memberOk (word deposits i) (word differences i) (word marks i))
+membersOk deposits differences marks = all (length deposits) (λ i. memberOk (figureAt deposits i) (figureAt differences i) (figureAt marks i))
 
 -- the number of the refusal, the lowest that applies; 0 where there is none
 unfoldable pub refusal : ℤ → List ℤ → List ℤ → List ℤ → ℕ → ℕ → ℕ
 refusal loss deposits differences marks first second =
-    cond (lengthsOk (length deposits) (length differences) (length marks) first second)
+    cond (oneLength (length deposits) (length differences) (length marks) first second)
     (cond (between (pos 0) (pos most-loss) loss)
     (cond (membersOk deposits differences marks) 0 8)
     5)
@@ -61,10 +57,10 @@ unfoldable pub negativeOf : ℤ → ℤ → ℕ
 negativeOf mark difference = cond (survives mark) 0 (nn difference)
 
 unfoldable pub weight : List ℤ → List ℤ → ℕ → ℕ
-weight marks figures i = weightOf (word marks i) (word figures i)
+weight marks figures i = weightOf (figureAt marks i) (figureAt figures i)
 
 unfoldable pub negative : List ℤ → List ℤ → ℕ → ℕ
-negative marks differences i = negativeOf (word marks i) (word differences i)
+negative marks differences i = negativeOf (figureAt marks i) (figureAt differences i)
 
 -- the defaulters' negative differences together
 abbrev pub negatives : List ℤ → List ℤ → ℕ

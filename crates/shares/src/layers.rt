@@ -3,7 +3,7 @@ ghost use mathlib.Core.Path.{_≡_};
 ghost use Prim.Native.Nat.{_≤_, min};
 ghost use lib.IntN.{natAbs};
 ghost use lib.ListN.{length};
-ghost use Rattle.whole.specs.Below.{listed};
+ghost use Rattle.whole.specs.Counting.{listed};
 ghost use Rattle.whole.specs.Reps.{Each};
 ghost use Rattle.portions.specs.Bounds.{most-members};
 ghost use Rattle.shares.specs.Loss as L;

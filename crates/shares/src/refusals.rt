@@ -2,11 +2,11 @@
 ghost use mathlib.Core.Path.{_≡_};
 ghost use lib.ListN.{length};
 ghost use Rattle.shares.specs.Loss as L;
-use whole::within;
+use whole::between;
 
 // Five lists of one length, 1 to 64.
-fn lengths_ok(n: usize, differences: usize, marks: usize, first: usize, second: usize) -> bool
-    ensures { λ r. ⌜ r ≡ L.lengthsOk n differences marks first second ⌝ }
+fn one_length(n: usize, differences: usize, marks: usize, first: usize, second: usize) -> bool
+    ensures { λ r. ⌜ r ≡ L.oneLength n differences marks first second ⌝ }
 {
     if n < 1 {
         return false;
@@ -30,13 +30,13 @@ fn lengths_ok(n: usize, differences: usize, marks: usize, first: usize, second: 
 fn member_ok(deposit: i64, difference: i64, mark: i64) -> bool
     ensures { λ r. ⌜ r ≡ L.memberOk deposit difference mark ⌝ }
 {
-    if !within(deposit, 0, 1000000000000) {
+    if !between(deposit, 0, 1000000000000) {
         return false;
     }
-    if !within(difference, -1000000000000, 1000000000000) {
+    if !between(difference, -1000000000000, 1000000000000) {
         return false;
     }
-    within(mark, 0, 1)
+    between(mark, 0, 1)
 }
 
 // Every member's figures are in range.
@@ -65,7 +65,7 @@ pub fn refusal(
 ) -> u64
     ensures { λ r. ⌜ r ≡ L.refusal loss (now (deposits .entry)) (now (differences .entry)) (now (marks .entry)) first second ⌝ }
 {
-    if !lengths_ok(
+    if !one_length(
         deposits.len(),
         differences.len(),
         marks.len(),
@@ -74,7 +74,7 @@ pub fn refusal(
     ) {
         return 2;
     }
-    if !within(loss, 0, 100000000000000) {
+    if !between(loss, 0, 100000000000000) {
         return 5;
     }
     if !members_ok(deposits, differences, marks) {

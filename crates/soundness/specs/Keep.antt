@@ -7,10 +7,10 @@ use Prim.Native.Nat.{ℕ, zero, suc, _+_, _-_, _≤_, _<_}
 use native.Mathlib.Omega.{arith}
 use lib.Dec.{eqb}
 use lib.IntN.{ℤ, pos, natAbs, _-ℤ_}
-use Rattle.whole.specs.Number.{within, between, is, isBelow}
-use Rattle.whole.specs.Below.{sum}
-use Rattle.whole.specs.BelowLaws.{sum-same}
-use Rattle.whole.specs.Tests.{both, in-range, is-below}
+use Rattle.whole.specs.Number.{within, between, is, isOneOf}
+use Rattle.whole.specs.Counting.{sum}
+use Rattle.whole.specs.CountingLaws.{sum-same}
+use Rattle.whole.specs.Tests.{both, in-range, is-one-of}
 use Rattle.rules.specs.Sizes.{isYen, mostPrice, mostBook, mostLots, mostHouse}
 use Rattle.rules.specs.Account.{accountOk}
 use Rattle.places.specs.declared.Shape.{Shape}
@@ -52,8 +52,8 @@ module _ (s : Shape) (g g′ : View) (e : SameProducts s g g′) where
   -- a yen product that is named by a product of the ledger is one of the ledger's
   names-kept : (j f : ℕ) → j < s .p → f < productFields → namesYen g j (prod j f) ≡ true → namesYen g′ j (prod j f) ≡ true
   names-kept j f h k t =
-      let b = both (isBelow j (g (prod j f))) (isYen (g (productKind (natAbs (g (prod j f)))))) t in
-      let l = is-below j (g (prod j f)) (b .0) .high in
+      let b = both (isOneOf j (g (prod j f))) (isYen (g (productKind (natAbs (g (prod j f)))))) t in
+      let l = is-one-of j (g (prod j f)) (b .0) .high in
       rw (e j f h k, e (natAbs (g (prod j f))) 0 (omega arith) (omega arith)) t
 
   cross-kept : (j : ℕ) → j < s .p → crossPair g j ≡ true → crossPair g′ j ≡ true

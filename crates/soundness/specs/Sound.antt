@@ -5,8 +5,8 @@ use mathlib.Core.Bool.{Bool, true, cond, not, _&&_, _||_}
 use Prim.Native.Nat.{ℕ, zero, suc, _+_, _-_}
 use lib.Dec.{eqb}
 use lib.IntN.{ℤ, pos, natAbs, _-ℤ_}
-use Rattle.whole.specs.Number.{within, between, is, isBelow}
-use Rattle.whole.specs.Below.{all, sum}
+use Rattle.whole.specs.Number.{within, between, is, isOneOf}
+use Rattle.whole.specs.Counting.{all, sum}
 use Rattle.rules.specs.Sizes.{isYen, mostPrice, mostBook, mostLots, mostHouse}
 use Rattle.rules.specs.Account.{accountOk}
 use Rattle.rules.specs.declared.Account.{Account}
@@ -31,7 +31,7 @@ headOk s g = within mostHouse (g house) && between (pos 0) (pos (s .n + 1)) (g p
 -- products of lower number; a yen product has 0 in both
 
 abbrev pub namesYen : View → ℕ → Place → Bool
-namesYen g j q = isBelow j (g q) && isYen (g (productKind (natAbs (g q))))
+namesYen g j q = isOneOf j (g q) && isYen (g (productKind (natAbs (g q))))
 
 abbrev pub yenPair : View → ℕ → Bool
 yenPair g j = is 0 (g (principal j)) && is 0 (g (quote j))

@@ -10,10 +10,10 @@ use native.Mathlib.Numerals.{add-one}
 use lib.Dec.{eqb}
 use lib.IntN.{ℤ, pos, natAbs, _-ℤ_}
 use Rattle.whole.specs.Number.{within, between, is}
-use Rattle.whole.specs.Below.{all, sum}
+use Rattle.whole.specs.Counting.{all, sum}
 use Rattle.whole.specs.Tests.{both, within-true}
 use Rattle.whole.specs.Whole.{or-yes, or-holds}
-use Rattle.whole.specs.BelowLaws.{all-at, all-is}
+use Rattle.whole.specs.CountingLaws.{all-at, all-is}
 use Rattle.rules.specs.Sizes.{mostHouse, mostGross}
 use Rattle.rules.specs.Account.{accountOk}
 use Rattle.rules.specs.AccountLaws.{account-facts}

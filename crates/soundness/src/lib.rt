@@ -5,7 +5,7 @@ ghost use Prim.Native.Nat.{ℕ, _-_, _<_, _≤_};
 ghost use lib.ListN.{length};
 ghost use lib.IntN.{pos, natAbs};
 ghost use Rattle.whole.specs.Number.{within, between, is};
-ghost use Rattle.whole.specs.Below.{all};
+ghost use Rattle.whole.specs.Counting.{all};
 ghost use Rattle.rules.specs.Sizes as Z;
 ghost use Rattle.rules.specs.Account.{accountOk};
 ghost use Rattle.places.specs.Place.{Has, prod, get, due};
@@ -88,14 +88,14 @@ fn head_ok(words: &[i64], s: Shape) -> bool
     requires { ⌜ Sized s (now words) ⌝ }
     ensures { λ r. ⌜ r ≡ S.headOk s (get byAccount s (now (words .entry))) ⌝ }
 {
-    if !whole::small(
+    if !whole::within(
         places::head_word(words, s, places::HOUSE),
         rules::sizes::MOST_HOUSE,
     ) {
         return false;
     }
     let n = s.n;
-    whole::within(
+    whole::between(
         places::head_word(words, s, places::PHASE),
         0,
         (n + 1) as i64,
@@ -132,11 +132,11 @@ fn places_ok(words: &[i64], s: Shape) -> bool
 // ---- the gate
 
 // A count that the words state: x where it is between 1 and `most`, else 0.
-fn count_of(x: i64, most: i64) -> usize
+fn stated_count(x: i64, most: i64) -> usize
     ensures { λ r. ⌜ r ≡ cond (between (pos 1) most x) (natAbs x) 0 ⌝ }
 {
-    if whole::within(x, 1, most) {
-        return whole::size(x) as usize;
+    if whole::between(x, 1, most) {
+        return whole::nat_abs(x) as usize;
     }
     0
 }
@@ -146,8 +146,8 @@ pub fn shape_of(words: &[i64]) -> Shape
     requires { ⌜ 2 ≤ length (now words) ⌝ }
     ensures { λ r. ⌜ r ≡ shapeOf (now (words .entry)) ⌝ }
 {
-    let n = count_of(words[0], MOST_ACCOUNTS);
-    let p = count_of(words[1], MOST_PRODUCTS);
+    let n = stated_count(words[0], MOST_ACCOUNTS);
+    let p = stated_count(words[1], MOST_PRODUCTS);
     Shape { n: n, p: p }
 }
 

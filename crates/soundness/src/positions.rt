@@ -4,7 +4,7 @@ ghost use mathlib.Core.Path.{_≡_};
 ghost use mathlib.Core.Bool.{_&&_};
 ghost use Prim.Native.Nat.{_<_};
 ghost use Rattle.whole.specs.Number.{within};
-ghost use Rattle.whole.specs.Below.{all};
+ghost use Rattle.whole.specs.Counting.{all};
 ghost use Rattle.rules.specs.Sizes.{mostLots};
 ghost use Rattle.places.specs.Place.{get};
 ghost use Rattle.places.specs.PlaceLaws.{Sized};
@@ -18,10 +18,10 @@ const MOST_LOTS: u64 = rules::sizes::MOST_LOTS as u64;
 pub fn held_in(lots: i64, book: i64, most: u64) -> bool
     ensures { λ r. ⌜ r ≡ (within mostLots lots && within most book) ⌝ }
 {
-    if !whole::small(lots, MOST_LOTS) {
+    if !whole::within(lots, MOST_LOTS) {
         return false;
     }
-    whole::small(book, most)
+    whole::within(book, most)
 }
 
 // The positions in the product j. Each word is tested before it is added.
@@ -43,7 +43,7 @@ fn positions_ok(words: &[i64], s: Shape, j: usize) -> bool
         sum += lots;
         a += 1;
     }
-    whole::within(sum, 0, 0)
+    whole::between(sum, 0, 0)
 }
 
 pub fn all_positions_ok(words: &[i64], s: Shape) -> bool

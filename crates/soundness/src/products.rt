@@ -2,7 +2,7 @@
 ghost use mathlib.Core.Path.{_≡_};
 ghost use Prim.Native.Nat.{_<_};
 ghost use Rattle.whole.specs.Number.{between};
-ghost use Rattle.whole.specs.Below.{all};
+ghost use Rattle.whole.specs.Counting.{all};
 ghost use Rattle.places.specs.Place.{Has, prod, get};
 ghost use Rattle.places.specs.PlaceLaws.{Sized};
 ghost use Rattle.places.specs.ByAccount.{byAccount};
@@ -14,7 +14,7 @@ fn prod_between(words: &[i64], s: Shape, j: usize, f: usize, lo: i64, hi: i64) -
     requires { ⌜ Has s (prod j f) ⌝ }
     ensures { λ r. ⌜ r ≡ between lo hi (get byAccount s (now (words .entry)) (prod j f)) ⌝ }
 {
-    whole::within(places::prod_word(words, s, j, f), lo, hi)
+    whole::between(places::prod_word(words, s, j, f), lo, hi)
 }
 
 // Whether a word of the product j names a yen product of lower number.
@@ -24,10 +24,10 @@ fn names_yen(words: &[i64], s: Shape, j: usize, f: usize) -> bool
     ensures { λ r. ⌜ r ≡ S.namesYen (get byAccount s (now (words .entry))) j (prod j f) ⌝ }
 {
     let x = places::prod_word(words, s, j, f);
-    if !whole::is_below(x, j) {
+    if !whole::is_one_of(x, j) {
         return false;
     }
-    let k = whole::size(x) as usize;
+    let k = whole::nat_abs(x) as usize;
     prod_between(words, s, k, places::PRODUCT_KIND, 0, 0)
 }
 
@@ -53,8 +53,8 @@ fn cross_pair(words: &[i64], s: Shape, j: usize) -> bool
     if !names_yen(words, s, j, places::QUOTE) {
         return false;
     }
-    !(whole::size(places::prod_word(words, s, j, places::PRINCIPAL))
-        == whole::size(places::prod_word(words, s, j, places::QUOTE)))
+    !(whole::nat_abs(places::prod_word(words, s, j, places::PRINCIPAL))
+        == whole::nat_abs(places::prod_word(words, s, j, places::QUOTE)))
 }
 
 fn pair_ok(words: &[i64], s: Shape, j: usize) -> bool

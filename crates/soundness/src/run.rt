@@ -5,7 +5,7 @@ ghost use mathlib.Core.Bool.{true, _&&_};
 ghost use Prim.Native.Nat.{ℕ, _-_, _<_, _≤_};
 ghost use lib.IntN.{natAbs};
 ghost use Rattle.whole.specs.Number.{is};
-ghost use Rattle.whole.specs.Below.{all};
+ghost use Rattle.whole.specs.Counting.{all};
 ghost use Rattle.rules.specs.Sizes.{mostHouse, mostGross};
 ghost use Rattle.places.specs.Place.{get, due};
 ghost use Rattle.places.specs.PlaceLaws.{Sized};
@@ -22,7 +22,7 @@ fn done_ok(words: &[i64], s: Shape, done: usize) -> bool
 {
     let mut a = 0;
     while a < done {
-        if !whole::within(places::acct_word(words, s, a, places::FIRST_DUE), 0, 0) {
+        if !whole::between(places::acct_word(words, s, a, places::FIRST_DUE), 0, 0) {
             return false;
         }
         a += 1;
@@ -43,7 +43,7 @@ pub fn stays(words: &[i64], s: Shape, house: i64, from: usize) -> bool
     let mut a = from;
     while a < n {
         h -= places::acct_word(words, s, a, places::FIRST_DUE);
-        if !whole::small(h, rules::sizes::MOST_HOUSE) {
+        if !whole::within(h, rules::sizes::MOST_HOUSE) {
             return false;
         }
         a += 1;
@@ -57,7 +57,7 @@ pub fn run_ok(words: &[i64], s: Shape) -> bool
     requires { ⌜ S.figuresOk s (get byAccount s (now words)) ≡ true ⌝ }
     ensures { λ r. ⌜ r ≡ (S.doneOk (get byAccount s (now (words .entry))) && S.toComeOk s (get byAccount s (now (words .entry)))) ⌝ }
 {
-    let turn = whole::size(places::head_word(words, s, places::PHASE)) as usize;
+    let turn = whole::nat_abs(places::head_word(words, s, places::PHASE)) as usize;
     if turn < 1 {
         return true;
     }

@@ -9,15 +9,15 @@ use Prim.Native.Nat.{ℕ, _+_, _-_, _≤_}
 use native.Mathlib.Omega.{arith}
 use lib.Dec.{eqb}
 use lib.IntN.{ℤ, pos, natAbs}
-use Rattle.whole.specs.Number.{is}
+use Rattle.whole.specs.Number.{is, unless}
 use Rattle.whole.specs.Tests.{in-range, is-false}
 use Rattle.places.specs.Place.{Layout, get, phase}
-use Rattle.places.specs.Act.{shapeOf, unless, finish}
+use Rattle.places.specs.Act.{shapeOf, finish}
 use Rattle.places.specs.ActLaws.{performed}
 use Rattle.soundness.specs.Sound.{sound, placesOk}
 use Rattle.soundness.specs.Perform.{replies, refuse, perform}
 use Rattle.acts.specs.Run.{beginRule}
-use Rattle.daily.specs.Figures.{lengthsOk}
+use Rattle.daily.specs.DailyFigures.{lengthsOk}
 use Rattle.closing.specs.Close.{closeRule}
 use Rattle.stretches.specs.Stretch.{Stretch, early, run, late, idle, rank}
 use Rattle.stretches.specs.History.{said, Event, asks, trade, transfer, begin, close, happens, waits, phaseOf, stretch, Until, Refused, AttemptsRefused, made}

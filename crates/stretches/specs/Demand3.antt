@@ -22,7 +22,8 @@ use Rattle.acts.specs.Run.{beginRule}
 use Rattle.acts.specs.RunLaws.{beginning, begin-of, begin-accepted}
 use Rattle.stretches.specs.Stretch.{Stretch, early, run, late, rank, only}
 use Rattle.stretches.specs.Sort.{sort}
-use Rattle.stretches.specs.History.{Answer, said, told, Event, asks, trade, transfer, begin, close, happens, waits, phaseOf, stretch, Until, Refused, transfers, made, transfersIn, chosen, eventsOf, wordsAfterAll, lastStretch, afterRun, ThreeStretches, LeftIn}
+use Rattle.stretches.specs.History.{Answer, said, told, Event, asks, trade, transfer, begin, close, happens, waits, phaseOf, stretch, Until, Refused, transfers, made, transfersIn, eventsOf, wordsAfterAll, lastStretch, afterRun, ThreeStretches}
+use Rattle.stretches.specs.Leaves.{chosen, LeftIn}
 use Rattle.stretches.specs.Events.{Good, lawful}
 use Rattle.stretches.specs.Attempts.{advance, Open, until-open, attempts-refused}
 

@@ -3,8 +3,9 @@ use mathlib.Core.Path.{_≡_, refl, ap}
 use mathlib.Core.List.{List}
 use mathlib.Core.Bool.{Bool, true, false}
 use lib.IntN.{ℤ}
+use Rattle.whole.specs.Number.{unless}
 use Rattle.places.specs.Place.{Layout, get}
-use Rattle.places.specs.Act.{shapeOf, Act, Rule, unless, finish, performBy}
+use Rattle.places.specs.Act.{shapeOf, Act, Rule, finish, performBy}
 use Rattle.places.specs.Footprint.{Footprint, KeepsTo}
 use Rattle.soundness.specs.Sound.{sound, placesOk}
 use Rattle.soundness.specs.Perform.{refuse, refuseQuestion}

@@ -9,8 +9,8 @@ use Prim.Native.Nat.{ℕ, _+_, _≤_, _<_}
 use native.Mathlib.Omega.{arith}
 use lib.Dec.{ltb, eqb}
 use lib.IntN.{ℤ, natAbs}
-use Rattle.whole.specs.Number.{isBelow}
-use Rattle.whole.specs.Tests.{both, is-below}
+use Rattle.whole.specs.Number.{isOneOf}
+use Rattle.whole.specs.Tests.{both, is-one-of}
 use Rattle.places.specs.Place.{Layout, get, phase}
 use Rattle.places.specs.Act.{shapeOf}
 use Rattle.places.specs.Footprint.{Footprint, Apart, KeepsTo, wordsAfter, apart-sym, commute, after-sound, after-shape, after-word, after-same}
@@ -33,21 +33,21 @@ use Rattle.stretches.specs.EventRules.{map-of, askRule, rule, unsound, a
 -- ---- judging
 
 -- a request that is judged early, and one that is not
-early-of : (n f : ℕ) (a : ℤ) (q : Ask) → rank (judge n f (asks a q)) < 2 → (isBelow n a ≡ true) × (f < natAbs a + 2)
+early-of : (n f : ℕ) (a : ℤ) (q : Ask) → rank (judge n f (asks a q)) < 2 → (isOneOf n a ≡ true) × (f < natAbs a + 2)
 early-of n f a q h = go (waits n f a) refl h
   where
-    go : (t : Bool) → waits n f a ≡ t → rank (cond t early late) < 2 → (isBelow n a ≡ true) × (f < natAbs a + 2)
-    go true e h = let b = both (isBelow n a) (ltb f (natAbs a + 2)) e in (b .0, ltb-true f (natAbs a + 2) (b .1))
+    go : (t : Bool) → waits n f a ≡ t → rank (cond t early late) < 2 → (isOneOf n a ≡ true) × (f < natAbs a + 2)
+    go true e h = let b = both (isOneOf n a) (ltb f (natAbs a + 2)) e in (b .0, ltb-true f (natAbs a + 2) (b .1))
     go false e h = absurd (omega arith)
 
-judged-early : (n f : ℕ) (a : ℤ) (q : Ask) → isBelow n a ≡ true → f < natAbs a + 2 → judge n f (asks a q) ≡ early
+judged-early : (n f : ℕ) (a : ℤ) (q : Ask) → isOneOf n a ≡ true → f < natAbs a + 2 → judge n f (asks a q) ≡ early
 judged-early n f a q b h = rw (b, lt-ltb f (natAbs a + 2) h)
 
-late-of : (n f : ℕ) (a : ℤ) (q : Ask) → 0 < rank (judge n f (asks a q)) → (isBelow n a ≡ false) ⊎ ((isBelow n a ≡ true) × (natAbs a + 2 ≤ f))
-late-of n f a q h = go (isBelow n a) refl (ltb f (natAbs a + 2)) refl h
+late-of : (n f : ℕ) (a : ℤ) (q : Ask) → 0 < rank (judge n f (asks a q)) → (isOneOf n a ≡ false) ⊎ ((isOneOf n a ≡ true) × (natAbs a + 2 ≤ f))
+late-of n f a q h = go (isOneOf n a) refl (ltb f (natAbs a + 2)) refl h
   where
-    go : (t : Bool) → isBelow n a ≡ t → (u : Bool) → ltb f (natAbs a + 2) ≡ u → 0 < rank (cond (t && u) early late)
-        → (isBelow n a ≡ false) ⊎ ((isBelow n a ≡ true) × (natAbs a + 2 ≤ f))
+    go : (t : Bool) → isOneOf n a ≡ t → (u : Bool) → ltb f (natAbs a + 2) ≡ u → 0 < rank (cond (t && u) early late)
+        → (isOneOf n a ≡ false) ⊎ ((isOneOf n a ≡ true) × (natAbs a + 2 ≤ f))
     go true e true e′ h = absurd (omega arith)
     go true e false e′ h = inr (e, ltb-false f (natAbs a + 2) e′)
     go false e true e′ h = inl e
@@ -86,13 +86,13 @@ plus-none k = omega arith
 
 module _ (L : Layout) (W : List ℤ) (ok : sound L W ≡ true) where
   -- a request that names one account keeps to its record; one that names no account of the ledger sees nothing
-  ask-of : (a : ℤ) (q : Ask) → isBelow (shapeOf W .n) a ≡ true → KeepsTo placesOk L W (own (natAbs a)) (askRule a q)
+  ask-of : (a : ℤ) (q : Ask) → isOneOf (shapeOf W .n) a ≡ true → KeepsTo placesOk L W (own (natAbs a)) (askRule a q)
   ask-of a (deposit x) b = map-of said L W (own (natAbs a)) (depositRule a x) (request-of L W ok (refuse 3) refl a (depositAct x) (deposit-proper x) b)
   ask-of a (withdrawal x) b = map-of said L W (own (natAbs a)) (withdrawRule a x) (request-of L W ok (refuse 3) refl a (withdrawAct x) (withdraw-proper x) b)
   ask-of a (guarantee x y) b = map-of said L W (own (natAbs a)) (guaranteeRule a x y) (request-of L W ok (refuse 3) refl a (guaranteeAct x y) (guarantee-proper x y) b)
   ask-of a question b = map-of told L W (own (natAbs a)) (questionRule a) (request-of L W ok (refuseQuestion 3) refl a questionAct question-proper b)
 
-  ask-none : (a : ℤ) (q : Ask) → isBelow (shapeOf W .n) a ≡ false → KeepsTo placesOk L W nothing (askRule a q)
+  ask-none : (a : ℤ) (q : Ask) → isOneOf (shapeOf W .n) a ≡ false → KeepsTo placesOk L W nothing (askRule a q)
   ask-none a (deposit x) b = map-of said L W nothing (depositRule a x) (request-none L W ok (refuse 3) refl a (depositAct x) b)
   ask-none a (withdrawal x) b = map-of said L W nothing (withdrawRule a x) (request-none L W ok (refuse 3) refl a (withdrawAct x) b)
   ask-none a (guarantee x y) b = map-of said L W nothing (guaranteeRule a x y) (request-none L W ok (refuse 3) refl a (guaranteeAct x y) b)
@@ -156,9 +156,9 @@ module _ (L : Layout) (W : List ℤ) (ok : sound L W ≡ true) where
   before F e o b q up r d =
       let h = early-of (shapeOf (acts L W e .1) .n) (phaseOf L (acts L W e .1)) b q r in
       let same = shape-then F e o in
-      let i : isBelow (shapeOf W .n) b ≡ true = ap (λ s. isBelow (s .n) b) (sym same) ∙ h .0 in
+      let i : isOneOf (shapeOf W .n) b ≡ true = ap (λ s. isOneOf (s .n) b) (sym same) ∙ h .0 in
       let w = h .1 in
-      swap F e o (own (natAbs b)) (asks b q) (ask-of b q i) (d (is-below (shapeOf W .n) b i .high) w)
+      swap F e o (own (natAbs b)) (asks b q) (ask-of b q i) (d (is-one-of (shapeOf W .n) b i .high) w)
       (judged-early (shapeOf W .n) (phaseOf L W) b q i (omega arith) ∙ sym (judged-early (shapeOf (acts L W e .1) .n) (phaseOf L (acts L W e .1)) b q (h .0) w))
       (others-stretch (own (natAbs b)) (asks b q) (ask-of b q i) (λ z. z) e)
 
@@ -175,7 +175,7 @@ module _ (L : Layout) (W : List ℤ) (ok : sound L W ≡ true) where
   late-ask : (a : ℤ) (q : Ask) → 0 < rank (stretch L W (asks a q)) → Late (asks a q)
   late-ask a q r = ⊎-elim none had (late-of (shapeOf W .n) (phaseOf L W) a q r)
     where
-      none : isBelow (shapeOf W .n) a ≡ false → Late (asks a q)
+      none : isOneOf (shapeOf W .n) a ≡ false → Late (asks a q)
       none b =
           record {
             foot = nothing;
@@ -187,7 +187,7 @@ module _ (L : Layout) (W : List ℤ) (ok : sound L W ≡ true) where
             still-late = λ f h. rw b;
           }
 
-      had : (isBelow (shapeOf W .n) a ≡ true) × (natAbs a + 2 ≤ phaseOf L W) → Late (asks a q)
+      had : (isOneOf (shapeOf W .n) a ≡ true) × (natAbs a + 2 ≤ phaseOf L W) → Late (asks a q)
       had b =
           let h = b .1 in
           record {
@@ -257,9 +257,9 @@ module _ (L : Layout) (W : List ℤ) (ok : sound L W ≡ true) where
   -- every event that is not idle leaves a sound ledger of the same shape, never lowers the phase, and in a run raises it by the
   -- transfers that it makes
   pub keeps : (e : Event) → stretch L W e ≢ idle → Kept L W e (acts L W e .1)
-  keeps (asks a q) h = go (isBelow (shapeOf W .n) a) refl
+  keeps (asks a q) h = go (isOneOf (shapeOf W .n) a) refl
     where
-      go : (t : Bool) → isBelow (shapeOf W .n) a ≡ t → Kept L W (asks a q) (acts L W (asks a q) .1)
+      go : (t : Bool) → isOneOf (shapeOf W .n) a ≡ t → Kept L W (asks a q) (acts L W (asks a q) .1)
       go true b = request-keeps (own (natAbs a)) (asks a q) (ask-of a q b) (λ z. z) refl
       go false b = request-keeps nothing (asks a q) (ask-none a q b) (λ z. z) refl
   keeps (trade b c j q t) h = let l = late-trade b c j q t in request-keeps (l .foot) (trade b c j q t) (l .of) (l .off-phase) refl

@@ -7,26 +7,23 @@
 -- All of this file and of `Stretch` is believed. The theorems are in `Demand3`.
 use mathlib.Core.Path.{_≡_}
 use mathlib.Core.List.{List, [], _∷_}
-use mathlib.Core.Bool.{Bool, true, cond, _&&_}
-use mathlib.Core.Logic.{_≢_}
-use Prim.Native.Nat.{ℕ, zero, suc, _+_, _-_, _≤_, _<_}
+use mathlib.Core.Bool.{Bool, cond, _&&_}
+use Prim.Native.Nat.{ℕ, zero, suc, _+_, _-_, _≤_}
 use lib.Dec.{ltb, eqb}
-use lib.IntN.{ℤ, pos, natAbs, _+ℤ_, _-ℤ_}
-use Rattle.whole.specs.Number.{isBelow}
-use Rattle.whole.specs.Below.{sum}
+use lib.IntN.{ℤ, pos, natAbs}
+use Rattle.whole.specs.Number.{isOneOf}
 use Rattle.rules.specs.declared.Reply.{Reply}
 use Rattle.rules.specs.declared.Standing.{Standing}
-use Rattle.places.specs.declared.Shape.{Shape}
-use Rattle.places.specs.Place.{Place, Has, View, Layout, get, phase, house, cash, due}
+use Rattle.places.specs.Place.{Layout, get}
 use Rattle.places.specs.Act.{shapeOf}
-use Rattle.soundness.specs.Sound.{turn, sound}
+use Rattle.soundness.specs.Sound.{turn}
 use Rattle.soundness.specs.Perform.{replies, perform, ask}
 use Rattle.acts.specs.Requests.{depositRule, withdrawRule, guaranteeRule, questionRule}
 use Rattle.acts.specs.Trade.{tradeRule}
 use Rattle.acts.specs.Run.{beginRule, stepRule}
-use Rattle.daily.specs.Figures.{lengthsOk}
+use Rattle.daily.specs.DailyFigures.{lengthsOk}
 use Rattle.closing.specs.Close.{closeRule}
-use Rattle.stretches.specs.Stretch.{Stretch, early, run, late, idle, rank, only, answers, end, pick, heard, Idle}
+use Rattle.stretches.specs.Stretch.{Stretch, early, run, late, idle, answers, end, pick, heard, Idle}
 
 -- ---- events, and what happens
 
@@ -72,7 +69,7 @@ happens L W (close prices rates8 rates104 lags) = hears said (perform L W (close
 
 -- a is one of n accounts, and in phase f it has not yet had its transfer: the accounts 0 to f - 2 have
 abbrev pub waits : ℕ → ℕ → ℤ → Bool
-waits n f a = isBelow n a && ltb f (natAbs a + 2)
+waits n f a = isOneOf n a && ltb f (natAbs a + 2)
 
 -- The stretch of an event that is made in phase f. A request that names no account of the ledger is among the last. A begin in phase 0 is the
 -- run's first call; any other, and every close, is an attempt.
@@ -141,11 +138,6 @@ abbrev pub Until : ℕ → List Event → Type 0
 Until m [] = Unit {0}
 Until m (e ∷ es) = (1 ≤ m) × Until (m - made e) es
 
--- the same choice as `eventsOf` makes from phase f, by the list alone: the phase counts the transfers
-abbrev pub chosen : ℕ → ℕ → Stretch → List Event → List Event
-chosen n f c [] = []
-chosen n f c (e ∷ es) = only (eqb (rank c) (rank (judge n f e))) e (chosen n (f + made e) c es)
-
 -- ---- the demand: the history from W is its early requests, then the run, then its late requests
 
 module _ (L : Layout) (W : List ℤ) (history theRun : List Event) where
@@ -168,28 +160,3 @@ module _ (L : Layout) (W : List ℤ) (history theRun : List Event) where
     pub late-answers : heardIn L late W history ≡ answersTo L afterRun lastStretch
     pub words : wordsAfterAll L W history ≡ wordsAfterAll L afterRun lastStretch
     pub attempts : AttemptsRefused L W history
-
--- ---- the run with no request between its transfers: every due 0 is settled, once
-
--- the answers of m transfers from the account k on: 0, and the account stepped
-abbrev pub steppedFrom : ℕ → ℕ → List Answer
-steppedFrom k zero = []
-steppedFrom k (suc m) = said (replies 0 (pos k)) ∷ steppedFrom (suc k) m
-
--- a place that a run leaves as it is: any but phase, house, and an account's cash and due 0
-abbrev pub Stands : Place → Type 0
-Stands q = ((a : ℕ) → (q ≢ cash a) × (q ≢ due a 0)) × (q ≢ house) × (q ≢ phase)
-
--- what stands at the places before the run and after it
-pub record Settled (s : Shape) (before now : View) : Type 0 where
-  pub none-due : (a : ℕ) → a < s .n → now (due a 0) ≡ pos 0
-  pub received : (a : ℕ) → a < s .n → now (cash a) ≡ before (cash a) +ℤ before (due a 0)
-  pub from-house : now house ≡ before house -ℤ sum (s .n) (λ a. before (due a 0))
-  pub phase-done : now phase ≡ pos (s .n + 1)
-  pub rest : (q : Place) → Has s q → Stands q → now q ≡ before q
-
--- ---- what is left: a sound ledger of the shape s in phase f
-pub record LeftIn (L : Layout) (W : List ℤ) (s : Shape) (f : ℕ) : Type 0 where
-  pub sound-words : sound L W ≡ true
-  pub same-shape : shapeOf W ≡ s
-  pub phase-is : phaseOf L W ≡ f

@@ -4,18 +4,20 @@
 --   Apart        which footprints of the ledger's rules are apart
 --   EventRules   each event as one rule; `Events`: the ledger's events meet the law's conditions
 --   Attempts     begin and close while the run is on: the number, and nothing changes
+--   Leaves       the words of the theorems beyond the demand
 --   Demand3      THE THEOREMS, in both forms, and what they leave
 --   RunAlone     the run with no requests settles every due 0, once
---   Calls        the same, said of functions that meet their contracts
---   Example      a history worked out
+--   CallChains   the same, said of functions that meet their contracts
+--   HistoryExample   a history worked out
 pub mod Stretch
 pub mod Sort
 pub mod History
+pub mod Leaves
 pub mod Apart
 pub mod EventRules
 pub mod Events
 pub mod Attempts
 pub mod Demand3
 pub mod RunAlone
-pub mod Calls
-pub mod Example
+pub mod CallChains
+pub mod HistoryExample

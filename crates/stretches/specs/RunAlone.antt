@@ -12,8 +12,8 @@ use native.Mathlib.Omega.{arith}
 use lib.IntN.{ℤ, pos, _+ℤ_, _-ℤ_}
 use Rattle.whole.specs.Reps.{leaf}
 use Rattle.whole.specs.Whole.{whole, facts, by}
-use Rattle.whole.specs.Below.{sum}
-use Rattle.whole.specs.BelowLaws.{sum-same}
+use Rattle.whole.specs.Counting.{sum}
+use Rattle.whole.specs.CountingLaws.{sum-same}
 use Rattle.whole.specs.Tests.{in-range, below-or-last}
 use Rattle.places.specs.declared.Shape.{Shape}
 use Rattle.places.specs.Place.{Place, head, prod, acct, held, Has, View, Layout, get, phase, house, cash, due}
@@ -27,7 +27,8 @@ use Rattle.acts.specs.Run.{beginRule, stepRule}
 use Rattle.acts.specs.RunLaws.{BeginPuts, beginning, begin-of}
 use Rattle.acts.specs.StepLaws.{Stepped, stepped, stepped-word, step-answer}
 use Rattle.stretches.specs.Stretch.{early, run, late, rank, only}
-use Rattle.stretches.specs.History.{said, Event, asks, trade, transfer, begin, close, happens, waits, phaseOf, stretch, answersTo, heardIn, wordsAfterAll, Until, transfers, made, transfersIn, steppedFrom, Stands, Settled, LeftIn}
+use Rattle.stretches.specs.History.{said, Event, asks, trade, transfer, begin, close, happens, waits, phaseOf, stretch, answersTo, heardIn, wordsAfterAll, Until, transfers, made, transfersIn}
+use Rattle.stretches.specs.Leaves.{steppedFrom, Stands, Settled, LeftIn}
 use Rattle.stretches.specs.Attempts.{advance, Open}
 use Rattle.stretches.specs.Demand3.{begun, open-history, all-to-come}
 

@@ -3,13 +3,13 @@ ghost use mathlib.Core.Path.{_≡_};
 ghost use mathlib.Core.Bool.{not};
 ghost use Prim.Native.Nat.{_≤_};
 ghost use lib.Dec.{eqb};
-ghost use Rattle.whole.specs.Below.{one-if};
+ghost use Rattle.whole.specs.Counting.{one-if};
 ghost use Rattle.tally.specs.Tally.{other, differing};
 
 pub fn differ(x: i64, y: i64) -> u64
     ensures { λ r. ⌜ r ≡ one-if (other x y) ⌝ ∗ ⌜ r ≤ 1 ⌝ }
 {
-    if whole::within(x, y, y) { 0 } else { 1 }
+    if whole::between(x, y, y) { 0 } else { 1 }
 }
 
 // How many words of two lists of one length differ; 1 where they have not one length.

@@ -12,14 +12,14 @@ use contract.Monad.{Fun, fact}
 use denote.Ref.{now}
 use denote.Triple.Entry.{Args, Res}
 use denote.Triple.Clauses.{Clauses, AtExit}
-use Rattle.rules.specs.Calls.{tellerDeposit, tellerWithdrawal}
-use Rattle.teller.specs.Permits.{Rule, Permits}
+use Rattle.rules.specs.AccountCalls.{tellerDeposit, tellerWithdrawal}
+use Rattle.teller.specs.Permits.{RecordRule, Permits}
 use Rattle.teller.proofs.Window.{window-ended}
 use Rattle.teller.proofs.deposit as deposit
 use Rattle.teller.proofs.withdraw as withdraw
 
 -- a contract that asks nothing, and says of reply and record what the rule permits
-pub record Says {M : Type 1} (𝓤 : URA M) (rule : Rule) (c : Clauses 𝓤 window-ended) : Type 2 where
+pub record Says {M : Type 1} (𝓤 : URA M) (rule : RecordRule) (c : Clauses 𝓤 window-ended) : Type 2 where
   pub asks : (κs : Lfts 1) (a : Args (window-ended .signature) κs) (g : c κs a .ghost) → c κs a .requires g ≡ emp 𝓤
   pub says : (κs : Lfts 1) (a : Args (window-ended .signature) κs) (g : c κs a .ghost) (r : Res (window-ended .signature) κs) (end : AtExit window-ended κs)
       → c κs a .ensures g r end ≡ fact 𝓤 (Permits rule (now (a .0)) (a .1 .0) r (now (end .0)))

@@ -62,10 +62,10 @@ use denote.Triple.Table.{entered, cited}
 use denote.Triple.Call.{calls-at}
 use denote.Triple.Clauses.{Ended, Clauses, AtExit, atExit, closing, ensured, lasts}
 use denote.Triple.Walked.{Stays, stay-ref, stay-none, walkOf, goes-none, goes-ref, Walks, ends-at, walked, walk-meets}
-use Rattle.rules.specs.Calls.{replyOf}
+use Rattle.rules.specs.AccountCalls.{replyOf}
 use Rattle.rules.specs.declared.Account.{Account}
 use Rattle.rules.specs.declared.Taken.{Taken}
-use Rattle.teller.specs.Permits.{Rule}
+use Rattle.teller.specs.Permits.{RecordRule}
 use Rattle.rules.proofs.Account as AccountType
 use Rattle.rules.proofs.Account.Laws as AccountLaws
 use Rattle.rules.proofs.Taken as TakenType
@@ -87,7 +87,7 @@ value-ended = record {
   kept = (yes, (yes, tt));
 }
 
-abbrev pub value-clauses : Rule → {M : Type 1} (𝓤 : URA M) → Clauses 𝓤 value-ended
+abbrev pub value-clauses : RecordRule → {M : Type 1} (𝓤 : URA M) → Clauses 𝓤 value-ended
 value-clauses rule 𝓤 κs a = record { ghost = Unit {0}; requires = λ _. emp 𝓤; ensures = λ _ r _. fact 𝓤 (r ≡ rule (a .0) (a .1 .0)) }
 
 -- the window: an account lent for change and an amount
@@ -125,7 +125,7 @@ window-fn callee = record {
 abbrev stayed : Stays (window-ended .signature .params) (window-ended .kept)
 stayed = (stay-ref (0 ∷ []) tt (plain (λ _. AccountType.the-row)), (stay-none (λ _. i64) yes, tt))
 
-abbrev Callee : Rule → {M : Type 1} (𝓤 : URA M) (H : Heap 𝓤) (A : Atoms 𝓤) → Contract 𝓤
+abbrev Callee : RecordRule → {M : Type 1} (𝓤 : URA M) (H : Heap 𝓤) (A : Atoms 𝓤) → Contract 𝓤
 Callee rule 𝓤 H A = tripleOf 𝓤 H A (value-ended .signature) (closing 𝓤 H A value-ended (value-clauses rule 𝓤))
 
 -- the parameters at exit, where the record is `after`
@@ -133,7 +133,7 @@ abbrev pub at-exit : (κs : Lfts 1) → Args (window-ended .signature) κs → A
 at-exit κs a after = atExit window-ended κs a (after, (tt, tt))
 
 -- what a contract must say for the law to hold of it: its `ensures` is true of the rule's reply, with the rule's account as the record at exit
-abbrev pub Holds : Rule → {M : Type 1} (𝓤 : URA M) → Clauses 𝓤 window-ended → Type 1
+abbrev pub Holds : RecordRule → {M : Type 1} (𝓤 : URA M) → Clauses 𝓤 window-ended → Type 1
 Holds rule 𝓤 c =
     (κs : Lfts 1) (a : Args (window-ended .signature) κs) (g : c κs a .ghost)
     → ent 𝓤 (emp 𝓤) (c κs a .ensures g (replyOf (rule (now (a .0)) (a .1 .0))) (at-exit κs a (rule (now (a .0)) (a .1 .0) .account)))
@@ -174,7 +174,7 @@ also : {M : Type 1} (𝓤 : URA M) (P Q : SProp 𝓤) → ent 𝓤 (emp 𝓤) Q 
 also 𝓤 P Q e = via 𝓤 (sep 𝓤 (emp 𝓤) P) (emp∗ 𝓤 P) (via 𝓤 (sep 𝓤 Q P) (monoL 𝓤 P e) (comm∗ 𝓤 Q P))
 
 -- ---- the walk, for one loan: of the account `before`, at the address (b, o), under the ghost name γ, for the lifetime κ, of which q is held
-module _ (rule : Rule) (callee : Name) {M : Type 1} (𝓤 : URA M) (H : Heap 𝓤) (A : Atoms 𝓤) (W : Given 𝓤 H A) (c : Clauses 𝓤 window-ended) (holds : Holds rule 𝓤 c)
+module _ (rule : RecordRule) (callee : Name) {M : Type 1} (𝓤 : URA M) (H : Heap 𝓤) (A : Atoms 𝓤) (W : Given 𝓤 H A) (c : Clauses 𝓤 window-ended) (holds : Holds rule 𝓤 c)
     (κ : Lft) (q : Share) (b o : ℕ) (γ : GName) (before : Account) (x : ℤ) (x-fits : mag x < 2 ^ 63) where
   abbrev args : RefT Account × (ℤ × (Unit {0}))
   args = (record { ptr = (b, o); name = γ; now = before }, (x, tt))
@@ -276,7 +276,7 @@ module _ (rule : Rule) (callee : Name) {M : Type 1} (𝓤 : URA M) (H : Heap �
 -- ---- the law
 
 -- every loan and every amount
-module _ (rule : Rule) (callee : Name) {M : Type 1} (𝓤 : URA M) (H : Heap 𝓤) (A : Atoms 𝓤) (W : Given 𝓤 H A) (c : Clauses 𝓤 window-ended) (holds : Holds rule 𝓤 c) where
+module _ (rule : RecordRule) (callee : Name) {M : Type 1} (𝓤 : URA M) (H : Heap 𝓤) (A : Atoms 𝓤) (W : Given 𝓤 H A) (c : Clauses 𝓤 window-ended) (holds : Holds rule 𝓤 c) where
   window-walks : (C : Calls 𝓤 H) (Λ : Loops 𝓤 H) → FmC 𝓤 H (W .laws) C → Triple 𝓤 (C callee) (Callee rule 𝓤 H A)
       → Walks 𝓤 H A window-ended stayed (WpFn 𝓤 H C Λ (window-fn callee)) c
   window-walks C Λ fm known =
@@ -293,7 +293,7 @@ module _ (rule : Rule) (callee : Name) {M : Type 1} (𝓤 : URA M) (H : Heap �
       (WpFn 𝓤 H (𝓣 .C) (𝓣 .Λ) (window-fn callee)) (WpFn-mono 𝓤 H (W .laws) 𝓣 (window-fn callee)) (window-walks (𝓣 .C) (𝓣 .Λ) (fmOf 𝓤 H (W .laws) 𝓣) known)
 
 -- a routine named `window`, where `env` says what its code's calls mean, meets a contract that holds of the rule if its callee answers by the rule
-pub window-law : (rule : Rule) (window callee : Name) (env : Env) (routine : Routine) → env callee ≡ routine
+pub window-law : (rule : RecordRule) (window callee : Name) (env : Env) (routine : Routine) → env callee ≡ routine
     → {M : Type 1} (𝓤 : URA M) (H : Heap 𝓤) (𝓜 : Model 𝓤 H) (𝓖 : GhostRules 𝓤 H) (𝓡 : Running 𝓤 H 𝓜)
     → Closed 𝓤 H (tables 𝓤 H 𝓜 𝓡 env .C) (tables 𝓤 H 𝓜 𝓡 env .Λ) window (window-fn callee)
     → Meets 𝓤 H (𝓖 .A) (value-ended .signature) (𝓡 .run routine) (closing 𝓤 H (𝓖 .A) value-ended (value-clauses rule 𝓤))

@@ -1,7 +1,7 @@
 // The teller window (document 01, "The ledger's words": deposits and withdrawals "on a single account record lent for change"). Each is the by-value
 // rule of `rules::calls` on the record that is lent, whatever its figures: the lowest number that applies is answered, and a refusal leaves the record.
 ghost use mathlib.Core.Path.{_≡_};
-ghost use Rattle.rules.specs.Calls.{tellerDeposit, tellerWithdrawal, replyOf};
+ghost use Rattle.rules.specs.AccountCalls.{tellerDeposit, tellerWithdrawal, replyOf};
 use rules::Account;
 use rules::Reply;
 

@@ -9,12 +9,12 @@ use borrow.Author.Tests.{eq-eqb, le-ltb}
 use lib.Dec.{eqb}
 use lib.IntN.{ℤ, pos, negsuc, natAbs}
 use lib.ListN.{length, getD, drop}
-use Rattle.whole.specs.Number.{minZ, maxZ, below, floorDiv}
+use Rattle.whole.specs.Number.{minZ, maxZ, takesAway, floorDiv}
 use Rattle.whole.specs.Tests.{clash}
 use Rattle.rules.specs.declared.Account.{Account}
 use Rattle.rules.specs.declared.Taken.{Taken}
 use Rattle.rules.specs.Account.{accountOk, lgValue, depositOf, requiredOf, excessOne, excessTwo, limitOf}
-use Rattle.rules.specs.Calls.{replyOf, deposited, withdrawn, tellerDeposit, tellerWithdrawal}
+use Rattle.rules.specs.AccountCalls.{replyOf, deposited, withdrawn, tellerDeposit, tellerWithdrawal}
 use Rattle.rules.specs.declared.Reply.{Reply}
 use Rattle.rules.specs.declared.Standing.{Standing}
 use Rattle.places.specs.ByAccount.{byAccount}
@@ -24,12 +24,12 @@ use Rattle.acts.specs.Requests.{depositRule, withdrawRule, guaranteeRule, quest
 use Rattle.acts.specs.Trade.{tradeRule}
 use Rattle.acts.specs.Run.{beginRule, stepRule}
 use Rattle.shares.specs.Loss.{lossShared}
-use Rattle.shares.specs.Examples.{deposits, differences, marks, blank, worked, refused}
+use Rattle.shares.specs.LossExamples.{deposits, differences, marks, blank, worked, refused}
 use Rattle.lines.specs.Bytes.{bytes}
 use Rattle.day.specs.Sheet.{answerOf, sheetOf}
 use Rattle.calls.specs.Ledger.{theLedger}
 use Rattle.tight.specs.Small.{opening, short}
-use Rattle.tight.specs.Numbers.{Refused, Accepted, closeAt, acceptances}
+use Rattle.tight.specs.Numbers.{Refuses, Accepts, closeAt, acceptances}
 use Rattle.tight.specs.PaperSheet.{input, output, the-sheet, no-text}
 
 -- a function from the words at entry to its reply and the words at exit; it meets a call's contract
@@ -50,12 +50,12 @@ pub record NotEmpty (rule : Rule Reply) : Type 0 where
   pub not-idle : (f : Program) → Meets rule f → ((Y : List ℤ) → f Y .1 ≡ Y) → ⊥
 
 -- no words at all are refused with 1, whatever the rule
-pub no-words : (rule : Rule Reply) → Refused [] rule 1 (pos 0)
+pub no-words : (rule : Rule Reply) → Refuses [] rule 1 (pos 0)
 unfolding soundBy performBy
 no-words rule = refl
 
 -- it is enough that the rule is accepted once, and changes the word i
-pub not-empty : (rule : Rule Reply) (W X : List ℤ) (z : ℤ) → Accepted W rule z X → (i : ℕ) → eqb (sizeAt X i) (sizeAt W i) ≡ false → NotEmpty rule
+pub not-empty : (rule : Rule Reply) (W X : List ℤ) (z : ℤ) → Accepts W rule z X → (i : ℕ) → eqb (sizeAt X i) (sizeAt W i) ≡ false → NotEmpty rule
 not-empty rule W X z a i d = record {
   not-refusing = λ f m never. never W (ap (λ p. p .0 .number) (m W ∙ a));
   not-constant = λ f m r same.
@@ -165,7 +165,7 @@ unfolding tellerDeposit deposited accountOk
 teller-deposit = window-not-empty _ (record-of (pos 0)) (record-of (pos 2)) refl refl refl
 
 pub teller-withdrawal : WindowNotEmpty (λ a. tellerWithdrawal a (pos 10))
-unfolding tellerWithdrawal withdrawn accountOk limitOf excessOne excessTwo depositOf lgValue requiredOf minZ maxZ floorDiv below
+unfolding tellerWithdrawal withdrawn accountOk limitOf excessOne excessTwo depositOf lgValue requiredOf minZ maxZ floorDiv takesAway
 teller-withdrawal = window-not-empty _ (record-of (pos 0)) (record-of (pos 2)) refl refl refl
 
 -- ---- the sheet: the paper's text and no text at all, in any list that has room

@@ -4,28 +4,28 @@ use mathlib.Core.Path.{_≡_, refl}
 use mathlib.Core.List.{List, [], _∷_}
 use Prim.Native.Nat.{ℕ}
 use lib.IntN.{ℤ, pos, negsuc}
-use Rattle.whole.specs.Number.{minZ, maxZ, below, floorDiv}
+use Rattle.whole.specs.Number.{minZ, maxZ, takesAway, floorDiv}
 use Rattle.rules.specs.declared.Reply.{Reply}
 use Rattle.rules.specs.Product.{rateOf, differenceOf}
 use Rattle.rules.specs.Account.{lgValue, depositOf, requiredOf, firstShortfall, nextDayNeed, secondShortfall, excessOne, excessTwo, limitOf, accountOk}
-use Rattle.rules.specs.Calls.{deposited, withdrawn, guaranteed, standingOf}
+use Rattle.rules.specs.AccountCalls.{deposited, withdrawn, guaranteed, standingOf}
 use Rattle.places.specs.ByAccount.{byAccount}
 use Rattle.places.specs.Act.{Rule, soundBy, performBy}
 use Rattle.soundness.specs.Perform.{replies, perform, ask}
 use Rattle.acts.specs.Requests.{depositRule, withdrawRule, guaranteeRule, questionRule}
 use Rattle.acts.specs.Trade.{tradeRule}
 use Rattle.acts.specs.Run.{beginRule, stepRule}
-use Rattle.daily.specs.Figures.{newDue, newMargin}
+use Rattle.daily.specs.DailyFigures.{newDue, newMargin}
 use Rattle.closing.specs.Close.{accountPuts, closePuts, closeRule}
 use Rattle.tight.specs.Small.{ledger, account, broker, provider, opening, settled, full, holding, short, brim}
 
 -- the rule on the words W is refused with the number k and the figure z, and leaves the words
-abbrev pub Refused : List ℤ → Rule Reply → ℕ → ℤ → Type 0
-Refused W rule k z = perform byAccount W rule ≡ (replies k z, W)
+abbrev pub Refuses : List ℤ → Rule Reply → ℕ → ℤ → Type 0
+Refuses W rule k z = perform byAccount W rule ≡ (replies k z, W)
 
 -- the rule on the words W is accepted with the figure z, and leaves the words X
-abbrev pub Accepted : List ℤ → Rule Reply → ℤ → List ℤ → Type 0
-Accepted W rule z X = perform byAccount W rule ≡ (replies 0 z, X)
+abbrev pub Accepts : List ℤ → Rule Reply → ℤ → List ℤ → Type 0
+Accepts W rule z X = perform byAccount W rule ≡ (replies 0 z, X)
 
 -- a close at a price of 1,502,600, both rates 400, lag 0
 abbrev pub closeAt : Rule Reply
@@ -33,37 +33,37 @@ closeAt = closeRule (pos 1502600 ∷ []) (pos 400 ∷ []) (pos 400 ∷ []) (pos 
 
 pub record Refusals : Type 0 where
   -- no words; a phase past n+1
-  pub one-empty : Refused [] (depositRule (pos 0) (pos 1)) 1 (pos 0)
-  pub one-phase : Refused (opening (pos 4)) (depositRule (pos 0) (pos 1)) 1 (pos 0)
+  pub one-empty : Refuses [] (depositRule (pos 0) (pos 1)) 1 (pos 0)
+  pub one-phase : Refuses (opening (pos 4)) (depositRule (pos 0) (pos 1)) 1 (pos 0)
   -- lists too short
-  pub two : Refused (settled (pos 0) (pos 0)) (closeRule [] [] [] []) 2 (pos 0)
-  pub three-above : Refused (opening (pos 0)) (depositRule (pos 2) (pos 1)) 3 (pos 0)
-  pub three-below : Refused (opening (pos 0)) (withdrawRule (negsuc 0) (pos 1)) 3 (pos 0)
-  pub four : Refused (opening (pos 0)) (tradeRule (pos 0) (pos 1) (pos 1) (pos 1) (pos 1502500)) 4 (pos 0)
-  pub five-deposit : Refused (opening (pos 0)) (depositRule (pos 0) (pos 0)) 5 (pos 0)
-  pub five-withdrawal : Refused (opening (pos 0)) (withdrawRule (pos 0) (pos 0)) 5 (pos 0)
+  pub two : Refuses (settled (pos 0) (pos 0)) (closeRule [] [] [] []) 2 (pos 0)
+  pub three-above : Refuses (opening (pos 0)) (depositRule (pos 2) (pos 1)) 3 (pos 0)
+  pub three-below : Refuses (opening (pos 0)) (withdrawRule (negsuc 0) (pos 1)) 3 (pos 0)
+  pub four : Refuses (opening (pos 0)) (tradeRule (pos 0) (pos 1) (pos 1) (pos 1) (pos 1502500)) 4 (pos 0)
+  pub five-deposit : Refuses (opening (pos 0)) (depositRule (pos 0) (pos 0)) 5 (pos 0)
+  pub five-withdrawal : Refuses (opening (pos 0)) (withdrawRule (pos 0) (pos 0)) 5 (pos 0)
   -- a guarantee out of range, for an L: the lowest number
-  pub five-guarantee : Refused (opening (pos 0)) (guaranteeRule (pos 1) (pos 1000000000001) (pos 0)) 5 (pos 0)
+  pub five-guarantee : Refuses (opening (pos 0)) (guaranteeRule (pos 1) (pos 1000000000001) (pos 0)) 5 (pos 0)
   -- a guarantee for an L; a trade of two F
-  pub six-guarantee : Refused (opening (pos 0)) (guaranteeRule (pos 1) (pos 1) (pos 1)) 6 (pos 0)
-  pub six-trade : Refused (opening (pos 0)) (tradeRule (pos 0) (pos 0) (pos 0) (pos 1) (pos 1502500)) 6 (pos 0)
-  pub seven-step : Refused (opening (pos 0)) stepRule 7 (pos 0)
-  pub seven-begin : Refused (opening (pos 1)) beginRule 7 (pos 0)
-  pub seven-close : Refused (opening (pos 0)) closeAt 7 (pos 0)
-  pub eight : Refused (opening (pos 0)) (tradeRule (pos 0) (pos 1) (pos 0) (pos 0) (pos 1502500)) 8 (pos 0)
+  pub six-guarantee : Refuses (opening (pos 0)) (guaranteeRule (pos 1) (pos 1) (pos 1)) 6 (pos 0)
+  pub six-trade : Refuses (opening (pos 0)) (tradeRule (pos 0) (pos 0) (pos 0) (pos 1) (pos 1502500)) 6 (pos 0)
+  pub seven-step : Refuses (opening (pos 0)) stepRule 7 (pos 0)
+  pub seven-begin : Refuses (opening (pos 1)) beginRule 7 (pos 0)
+  pub seven-close : Refuses (opening (pos 0)) closeAt 7 (pos 0)
+  pub eight : Refuses (opening (pos 0)) (tradeRule (pos 0) (pos 1) (pos 0) (pos 0) (pos 1502500)) 8 (pos 0)
   -- 999,999 lots and 2 more
-  pub nine : Refused full (tradeRule (pos 0) (pos 1) (pos 0) (pos 2) (pos 1)) 9 (pos 0)
+  pub nine : Refuses full (tradeRule (pos 0) (pos 1) (pos 0) (pos 2) (pos 1)) 9 (pos 0)
   -- one yen more than a gross of 10^15
-  pub ten : Refused (holding (pos 999999999999990)) (depositRule (pos 0) (pos 11)) 10 (pos 0)
+  pub ten : Refuses (holding (pos 999999999999990)) (depositRule (pos 0) (pos 11)) 10 (pos 0)
   -- the figure is the limit
-  pub eleven : Refused (opening (pos 0)) (withdrawRule (pos 0) (pos 60000)) 11 (pos 50000)
+  pub eleven : Refuses (opening (pos 0)) (withdrawRule (pos 0) (pos 60000)) 11 (pos 50000)
   -- the figure is the lowest account: of the second alone, and of both
-  pub twelve-second : Refused (settled (pos 0) (pos 999999999999900)) closeAt 12 (pos 1)
-  pub twelve-both : Refused (settled (pos 999999999999900) (pos 999999999999900)) closeAt 12 (pos 0)
-  pub thirteen : Refused brim beginRule 13 (pos 0)
+  pub twelve-second : Refuses (settled (pos 0) (pos 999999999999900)) closeAt 12 (pos 1)
+  pub twelve-both : Refuses (settled (pos 999999999999900) (pos 999999999999900)) closeAt 12 (pos 0)
+  pub thirteen : Refuses brim beginRule 13 (pos 0)
 
 pub refusals : Refusals
-unfolding soundBy performBy byAccount accountOk limitOf excessOne excessTwo depositOf lgValue requiredOf deposited withdrawn guaranteed below minZ maxZ floorDiv closePuts accountPuts newDue newMargin rateOf differenceOf
+unfolding soundBy performBy byAccount accountOk limitOf excessOne excessTwo depositOf lgValue requiredOf deposited withdrawn guaranteed takesAway minZ maxZ floorDiv closePuts accountPuts newDue newMargin rateOf differenceOf
 refusals =
     record {
       one-empty = refl;
@@ -92,25 +92,25 @@ refusals =
 -- the words that change are those that differ between the two ledgers of a line
 pub record Acceptances : Type 0 where
   -- the broker's cash, to a gross of 10^15 and no further
-  pub deposit : Accepted (holding (pos 999999999999990)) (depositRule (pos 0) (pos 10)) (pos 1000000000000000) (holding (pos 1000000000000000))
+  pub deposit : Accepts (holding (pos 999999999999990)) (depositRule (pos 0) (pos 10)) (pos 1000000000000000) (holding (pos 1000000000000000))
   -- the broker's cash
-  pub withdrawal : Accepted (holding (pos 50000)) (withdrawRule (pos 0) (pos 50000)) (pos 0) (holding (pos 0))
+  pub withdrawal : Accepts (holding (pos 50000)) (withdrawRule (pos 0) (pos 50000)) (pos 0) (holding (pos 0))
   -- its guarantee and cap; the figure is the LG value of R7
-  pub guarantee : Accepted (holding (pos 5)) (guaranteeRule (pos 0) (pos 1000001) (pos 1000001)) (pos 990000)
+  pub guarantee : Accepts (holding (pos 5)) (guaranteeRule (pos 0) (pos 1000001) (pos 1000001)) (pos 990000)
       (ledger (pos 0) (pos 0) (pos 1502500) (account (pos 0) (pos 5) (pos 1000001) (pos 1000001) (pos 0) (pos 0) (pos 0) (pos 0) (provider (pos 0) (pos 0) (pos 0) (pos 0) [])))
   -- lots and book of both
-  pub trade : Accepted (holding (pos 5)) (tradeRule (pos 0) (pos 1) (pos 0) (pos 2) (pos 1502500)) (pos 0)
+  pub trade : Accepts (holding (pos 5)) (tradeRule (pos 0) (pos 1) (pos 0) (pos 2) (pos 1502500)) (pos 0)
       (ledger (pos 0) (pos 0) (pos 1502500) (broker (pos 5) (pos 0) (pos 2) (pos 3005000) (provider (pos 0) (pos 0) (negsuc 1) (negsuc 3004999) [])))
   -- the phase
-  pub begin : Accepted (opening (pos 0)) beginRule (pos 0) (opening (pos 1))
+  pub begin : Accepts (opening (pos 0)) beginRule (pos 0) (opening (pos 1))
   -- phase, house, the broker's cash and due 0; the provider's due 0 stays
-  pub step : Accepted (opening (pos 1)) stepRule (pos 0)
+  pub step : Accepts (opening (pos 1)) stepRule (pos 0)
       (ledger (pos 2) (negsuc 199999) (pos 1502500) (broker (pos 250000) (pos 0) (pos 0) (pos 0) (provider (pos 300000) (negsuc 199999) (pos 0) (pos 0) [])))
   -- and the second step, the provider's
-  pub last-step : Accepted (ledger (pos 2) (negsuc 199999) (pos 1502500) (broker (pos 250000) (pos 0) (pos 0) (pos 0) (provider (pos 300000) (negsuc 199999) (pos 0) (pos 0) []))) stepRule (pos 1)
+  pub last-step : Accepts (ledger (pos 2) (negsuc 199999) (pos 1502500) (broker (pos 250000) (pos 0) (pos 0) (pos 0) (provider (pos 300000) (negsuc 199999) (pos 0) (pos 0) []))) stepRule (pos 1)
       (ledger (pos 3) (pos 0) (pos 1502500) (broker (pos 250000) (pos 0) (pos 0) (pos 0) (provider (pos 100000) (pos 0) (pos 0) (pos 0) [])))
   -- phase, price, both margins, dues 0 and books
-  pub close : Accepted (settled (pos 5) (pos 6)) closeAt (pos 0)
+  pub close : Accepts (settled (pos 5) (pos 6)) closeAt (pos 0)
       (ledger (pos 0) (pos 0) (pos 1502600)
       (account (pos 0) (pos 5) (pos 0) (pos 0) (pos 180312) (pos 300) (pos 30) (pos 45078000)
       (account (pos 1) (pos 6) (pos 0) (pos 0) (pos 180312) (negsuc 299) (negsuc 29) (negsuc 45077999) [])))
@@ -120,7 +120,7 @@ pub record Acceptances : Type 0 where
   pub question-refused : ask byAccount short (questionRule (pos 2)) ≡ (record { number = 3; limit = pos 0; first = pos 0; second = pos 0 }, short)
 
 pub acceptances : Acceptances
-unfolding soundBy performBy byAccount accountOk limitOf excessOne excessTwo depositOf lgValue requiredOf firstShortfall secondShortfall nextDayNeed deposited withdrawn guaranteed standingOf below minZ maxZ floorDiv closePuts accountPuts newDue newMargin rateOf differenceOf
+unfolding soundBy performBy byAccount accountOk limitOf excessOne excessTwo depositOf lgValue requiredOf firstShortfall secondShortfall nextDayNeed deposited withdrawn guaranteed standingOf takesAway minZ maxZ floorDiv closePuts accountPuts newDue newMargin rateOf differenceOf
 acceptances =
     record {
       deposit = refl;

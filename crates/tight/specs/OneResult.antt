@@ -8,7 +8,7 @@ use lib.IntN.{ℤ}
 use Rattle.rules.specs.declared.Account.{Account}
 use Rattle.rules.specs.declared.Reply.{Reply}
 use Rattle.rules.specs.declared.Standing.{Standing}
-use Rattle.rules.specs.Calls.{replyOf, tellerDeposit, tellerWithdrawal}
+use Rattle.rules.specs.AccountCalls.{replyOf, tellerDeposit, tellerWithdrawal}
 use Rattle.places.specs.ByAccount.{byAccount}
 use Rattle.soundness.specs.Perform.{perform, ask}
 use Rattle.acts.specs.Requests.{depositRule, withdrawRule, guaranteeRule, questionRule}

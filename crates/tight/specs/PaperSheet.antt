@@ -3,9 +3,9 @@
 use mathlib.Core.Path.{_≡_, refl}
 use mathlib.Core.List.{List, _++_}
 use Prim.Native.Nat.{ℕ}
-use Rattle.whole.specs.Number.{minZ, maxZ, below, floorDiv}
+use Rattle.whole.specs.Number.{minZ, maxZ, takesAway, floorDiv}
 use Rattle.rules.specs.Account.{lgValue, depositOf, requiredOf, firstShortfall, nextDayNeed, secondShortfall, excessOne, excessTwo, limitOf, accountOk}
-use Rattle.rules.specs.Calls.{withdrawn, standingOf}
+use Rattle.rules.specs.AccountCalls.{withdrawn, standingOf}
 use Rattle.places.specs.ByAccount.{byAccount}
 use Rattle.places.specs.Act.{soundBy, performBy}
 use Rattle.lines.specs.Bytes.{bytes}
@@ -14,7 +14,7 @@ use Rattle.lines.specs.Lines.{past, fieldAt, figuresAt, kindAt, lines}
 use Rattle.lines.specs.Print.{digits, decimal, numbersLine, badLine}
 use Rattle.dayfile.specs.Table.{countLine, contentsOf}
 use Rattle.dayfile.specs.Sections.{positionAt, productsFrom, accountsFrom, positionsFrom}
-use Rattle.dayfile.specs.Calls.{figuresOf, callAt, callOf, callsFrom, callsAt}
+use Rattle.dayfile.specs.CallLines.{figuresOf, callAt, callOf, callsFrom, callsAt}
 use Rattle.dayfile.specs.Day.{bodiesOf}
 use Rattle.day.specs.Sheet.{accountsPart, callsPart, goodSheet, daySheet, sheetOf}
 use Rattle.calls.specs.Ledger.{theLedger}
@@ -30,7 +30,7 @@ output =
     ++ bytes "0 190000 0 0 0 190000 0 0\n1 100000 0 0 0 100000 0 0\nHOUSE 0\n"
 
 pub the-sheet : sheetOf theLedger input ≡ output
-unfolding numberAt past fieldAt figuresAt lines countLine contentsOf kindAt positionAt productsFrom accountsFrom positionsFrom callsFrom figuresOf callAt callOf callsAt bodiesOf digits decimal numbersLine badLine accountsPart callsPart goodSheet daySheet sheetOf theLedger soundBy performBy byAccount accountOk limitOf excessOne excessTwo depositOf lgValue requiredOf firstShortfall secondShortfall nextDayNeed withdrawn standingOf below minZ maxZ floorDiv
+unfolding numberAt past fieldAt figuresAt lines countLine contentsOf kindAt positionAt productsFrom accountsFrom positionsFrom callsFrom figuresOf callAt callOf callsAt bodiesOf digits decimal numbersLine badLine accountsPart callsPart goodSheet daySheet sheetOf theLedger soundBy performBy byAccount accountOk limitOf excessOne excessTwo depositOf lgValue requiredOf firstShortfall secondShortfall nextDayNeed withdrawn standingOf takesAway minZ maxZ floorDiv
 the-sheet = refl
 
 pub no-text : sheetOf theLedger (bytes "") ≡ bytes "BAD 1\n"

@@ -11,7 +11,7 @@ use lib.IntN.{ℤ, pos, natAbs}
 use lib.ListN.{length, getD, drop, set, length-append, length-drop, drop-of-length-le, List·getD-append, List·getD-eq-default}
 use lib.Seq.{drop-cons, set-at, getD-at}
 use borrow.Author.Tests.{ltb-true, ltb-false}
-use Rattle.whole.specs.Below.{listed}
+use Rattle.whole.specs.Counting.{listed}
 use Rattle.whole.specs.Reps.{Each}
 use Rattle.whole.specs.Tests.{below-or-last, true-or-false}
 

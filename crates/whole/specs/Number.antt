@@ -1,5 +1,5 @@
 -- The whole numbers of document 01: ranges, the lesser and the greater, the parts above and below 0, and the two ways of rounding. What a reader believes.
-use mathlib.Core.Bool.{Bool, cond, _&&_}
+use mathlib.Core.Bool.{Bool, true, false, cond, _&&_}
 use Prim.Native.Nat.{ℕ, suc, _+_, _-_, _/_}
 use lib.Dec.{leb, ltb}
 use lib.IntN.{ℤ, pos, negsuc, negℤ, natAbs}
@@ -18,8 +18,13 @@ abbrev pub is : ℕ → ℤ → Bool
 is k z = between (pos k) (pos k) z
 
 -- 0 ≤ z < n: z is the number of one of n things, counted from 0
-abbrev pub isBelow : ℕ → ℤ → Bool
-isBelow n z = leZ (pos 0) z && ltb (natAbs z) n
+abbrev pub isOneOf : ℕ → ℤ → Bool
+isOneOf n z = leZ (pos 0) z && ltb (natAbs z) n
+
+-- the answer o, unless the test fails: then the refusal
+abbrev pub unless : {A : Type 0} → Bool → A → A → A
+unless true refusal o = o
+unless false refusal o = refusal
 
 -- the lesser and the greater of two
 unfoldable pub minZ : ℤ → ℤ → ℤ
@@ -38,8 +43,8 @@ nn (pos n) = 0
 nn (negsuc n) = suc n
 
 -- how far z is below 0
-unfoldable pub below : ℤ → ℤ
-below z = maxZ (pos 0) (negℤ z)
+unfoldable pub takesAway : ℤ → ℤ
+takesAway z = maxZ (pos 0) (negℤ z)
 
 -- z / k rounded down, toward minus infinity: -(a + 1) by k is -(a / k + 1)
 unfoldable pub floorDiv : ℤ → ℕ → ℤ

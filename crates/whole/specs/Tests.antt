@@ -7,7 +7,7 @@ use native.Mathlib.Omega.{arith}
 use lib.Dec.{leb, ltb}
 use lib.IntN.{ℤ, pos, negsuc, natAbs, _+ℤ_, _-ℤ_}
 use borrow.Author.Tests.{leb-true, le-leb, ltb-true, ltb-false, not-true, not-false}
-use Rattle.whole.specs.Number.{within, between, isBelow}
+use Rattle.whole.specs.Number.{within, between, isOneOf, unless}
 use Rattle.whole.specs.Signs.{false-true}
 use Rattle.whole.specs.Reps.{leaf}
 use Rattle.whole.specs.Whole.{whole, facts, by}
@@ -30,6 +30,11 @@ fails {r} e h = sym e ∙ not-true r h
 pub holds : {r b : Bool} → r ≡ b → not r ≡ false → b ≡ true
 holds {r} e h = sym e ∙ not-false r h
 
+-- what holds of the refusal and of the answer holds of the call
+pub unless-both : {A : Type 0} (P : A → Type 0) (t : Bool) (refusal o : A) → (t ≡ false → P refusal) → (t ≡ true → P o) → P (unless t refusal o)
+unless-both P true refusal o f g = g refl
+unless-both P false refusal o f g = f refl
+
 -- what a passed range test says of a number at and above 0
 pub record InRange (lo hi : ℕ) (z : ℤ) : Type 0 where
   pub low : lo ≤ natAbs z
@@ -46,14 +51,14 @@ in-range lo hi (negsuc k) e = absurd (false-true e)
 pub is-in : (lo hi k : ℕ) → lo ≤ k → k ≤ hi → between (pos lo) (pos hi) (pos k) ≡ true
 is-in lo hi k h i = rw (le-leb lo k h, le-leb k hi i)
 
--- what a passed test `isBelow` says, and back
-pub record IsBelow (n : ℕ) (z : ℤ) : Type 0 where
+-- what a passed test `isOneOf` says, and back
+pub record IsOneOf (n : ℕ) (z : ℤ) : Type 0 where
   pub high : natAbs z < n
   pub nat : z ≡ pos (natAbs z)
 
-pub is-below : (n : ℕ) (z : ℤ) → isBelow n z ≡ true → IsBelow n z
-is-below n (pos k) e = record { high = ltb-true k n (both (leb 0 k) (ltb k n) e .1); nat = refl }
-is-below n (negsuc k) e = absurd (false-true e)
+pub is-one-of : (n : ℕ) (z : ℤ) → isOneOf n z ≡ true → IsOneOf n z
+is-one-of n (pos k) e = record { high = ltb-true k n (both (leb 0 k) (ltb k n) e .1); nat = refl }
+is-one-of n (negsuc k) e = absurd (false-true e)
 
 pub within-true : (b : ℕ) (z : ℤ) → within b z ≡ true → natAbs z ≤ b
 within-true b z e = leb-true (natAbs z) b e

@@ -6,7 +6,7 @@ ghost use lib.Signed.{_≤ℤ_};
 ghost use Rattle.whole.specs.Number as N;
 
 // Whether x lies between lo and hi.
-pub fn within(x: i64, lo: i64, hi: i64) -> bool
+pub fn between(x: i64, lo: i64, hi: i64) -> bool
     ensures { λ r. ⌜ r ≡ N.between lo hi x ⌝ }
 {
     lo <= x && x <= hi
@@ -21,36 +21,36 @@ pub fn up(x: i64) -> u64
 }
 
 // |x|, of the least number too, whose size no i64 holds.
-pub fn size(x: i64) -> u64
+pub fn nat_abs(x: i64) -> u64
     ensures { λ r. ⌜ r ≡ natAbs x ⌝ }
 {
     if x < 0 { up(0 - (x + 1)) + 1 } else { up(x) }
 }
 
 // Whether x is at most `most` in size.
-pub fn small(x: i64, most: u64) -> bool
+pub fn within(x: i64, most: u64) -> bool
     ensures { λ r. ⌜ r ≡ N.within most x ⌝ }
 {
-    size(x) <= most
+    nat_abs(x) <= most
 }
 
 // Whether x is the number of one of n things, counted from 0.
-pub fn is_below(x: i64, n: usize) -> bool
-    ensures { λ r. ⌜ r ≡ N.isBelow n x ⌝ }
+pub fn is_one_of(x: i64, n: usize) -> bool
+    ensures { λ r. ⌜ r ≡ N.isOneOf n x ⌝ }
 {
     if x < 0 {
         return false;
     }
-    size(x) < n as u64
+    nat_abs(x) < n as u64
 }
 
-pub fn lower(a: i64, b: i64) -> i64
+pub fn min(a: i64, b: i64) -> i64
     ensures { λ r. ⌜ r ≡ N.minZ a b ⌝ }
 {
     if a <= b { a } else { b }
 }
 
-pub fn upper(a: i64, b: i64) -> i64
+pub fn max(a: i64, b: i64) -> i64
     ensures { λ r. ⌜ r ≡ N.maxZ a b ⌝ }
 {
     if a <= b { b } else { a }
@@ -72,9 +72,9 @@ pub fn minus(a: i64, b: i64) -> i64
 }
 
 // How far x is below 0, or 0.
-pub fn below(x: i64) -> i64
+pub fn takes_away(x: i64) -> i64
     requires { ⌜ natAbs x < 2 ^ 62 ⌝ }
-    ensures { λ r. ⌜ r ≡ N.below x ⌝ }
+    ensures { λ r. ⌜ r ≡ N.takesAway x ⌝ }
 {
     if x < 0 { 0 - x } else { 0 }
 }

@@ -36,7 +36,7 @@ fn check(path: &str) -> ExitCode {
     let clerks: &[(&str, &dyn second::clerk::Clerk)] = &[
         ("this program", &Plain),
         #[cfg(window)]
-        ("the archive", &second::window::Window),
+        ("the archive", &second::interface::Interface),
     ];
     for (name, clerk) in clerks {
         match cases::check(*clerk, &file) {

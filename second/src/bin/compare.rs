@@ -38,7 +38,7 @@ fn main() -> ExitCode {
     };
     let Some(other) = other(options.with_self) else {
         eprintln!(
-            "no archive is linked: build with HEIDBUMMEN_LIB=/path/to/libwindow.a, or give --self"
+            "no archive is linked: build with HEIDBUMMEN_LIB=/path/to/libinterface.a, or give --self"
         );
         return ExitCode::from(2);
     };

@@ -1,13 +1,14 @@
 -- The tests are those of `callOf`, letter by letter; each branch is one call, with the figures that the letter has.
 use mathlib.Core.Path.{_≡_, _∙_, ap}
 use borrow.Author.Tests.{eq-eqb, ne-eqb}
+use Rattle.whole.specs.Counting.{figureAt}
 use Rattle.whole.specs.Signs.{came}
 use Rattle.places.specs.Place.{get}
 use Rattle.places.specs.Act.{finish}
 use Rattle.places.specs.ByAccount.{byAccount}
 use Rattle.acts.specs.Requests.{depositRule, withdrawRule, guaranteeRule}
-use Rattle.dayfile.specs.Calls.{Call, deposit, withdrawal, guarantee, figure, callOf}
-use Rattle.calls.specs.Inside.{callOnAll}
+use Rattle.dayfile.specs.CallLines.{Call, deposit, withdrawal, guarantee, callOf}
+use Rattle.calls.specs.InsideCalls.{callOnAll}
 use Rattle.calls.specs.Ledger.{theLedger}
 use Rattle.calls.specs.LedgerLaws.{acted}
 use borrow.Author.Needs.{needs}
@@ -34,8 +35,8 @@ returns c =
     let v = b .args .figures .now in
     let x = came (c .before .before .before .before .before .figure-at .result) (c .before .before .before .before .before .figure-at .ok) (c .before .before .before .before .before .figure-at .ensures) in
     let y = came (c .before .before .before .before .figure-at2 .result) (c .before .before .before .before .figure-at2 .ok) (c .before .before .before .before .figure-at2 .ensures) in
-    let call-is : deposit (figure v 0) (figure v 1) ≡ callOf (b .args .s .p) (b .args .letter) v = simp (eq-eqb _ _ (c .before .before .before .if1 .taken)) in
-    acted (b .args .s) W (b .pre) (deposit (figure v 0) (figure v 1)) call-is
+    let call-is : deposit (figureAt v 0) (figureAt v 1) ≡ callOf (b .args .s .p) (b .args .letter) v = simp (eq-eqb _ _ (c .before .before .before .if1 .taken)) in
+    acted (b .args .s) W (b .pre) (deposit (figureAt v 0) (figureAt v 1)) call-is
     (c .before .deposit-in .ensures ∙ (λ i. finish byAccount (b .args .s) W (depositRule (x i) (y i) (b .args .s) (get byAccount (b .args .s) W))))
 
 withdraw-in-requires : tie.Need-withdraw-in-requires
@@ -52,8 +53,8 @@ returns-2 c =
     let v = b .args .figures .now in
     let x = came (c .before .before .before .before .before .before .figure-at .result) (c .before .before .before .before .before .before .figure-at .ok) (c .before .before .before .before .before .before .figure-at .ensures) in
     let y = came (c .before .before .before .before .before .figure-at2 .result) (c .before .before .before .before .before .figure-at2 .ok) (c .before .before .before .before .before .figure-at2 .ensures) in
-    let call-is : withdrawal (figure v 0) (figure v 1) ≡ callOf (b .args .s .p) (b .args .letter) v = simp (ne-eqb _ _ (c .before .before .before .before .if1 .left), eq-eqb _ _ (c .before .before .before .if2 .taken)) in
-    acted (b .args .s) W (b .pre) (withdrawal (figure v 0) (figure v 1)) call-is
+    let call-is : withdrawal (figureAt v 0) (figureAt v 1) ≡ callOf (b .args .s .p) (b .args .letter) v = simp (ne-eqb _ _ (c .before .before .before .before .if1 .left), eq-eqb _ _ (c .before .before .before .if2 .taken)) in
+    acted (b .args .s) W (b .pre) (withdrawal (figureAt v 0) (figureAt v 1)) call-is
     (c .before .withdraw-in .ensures ∙ (λ i. finish byAccount (b .args .s) W (withdrawRule (x i) (y i) (b .args .s) (get byAccount (b .args .s) W))))
 
 figure-at-requires-3 : tie.Need-figure-at-requires-3
@@ -74,8 +75,8 @@ returns-3 c =
     let x = came (c .before .before .before .before .before .before .before .before .figure-at .result) (c .before .before .before .before .before .before .before .before .figure-at .ok) (c .before .before .before .before .before .before .before .before .figure-at .ensures) in
     let y = came (c .before .before .before .before .before .before .before .figure-at2 .result) (c .before .before .before .before .before .before .before .figure-at2 .ok) (c .before .before .before .before .before .before .before .figure-at2 .ensures) in
     let z = came (c .before .before .before .figure-at3 .result) (c .before .before .before .figure-at3 .ok) (c .before .before .before .figure-at3 .ensures) in
-    let call-is : guarantee (figure v 0) (figure v 1) (figure v 2) ≡ callOf (b .args .s .p) (b .args .letter) v = simp (ne-eqb _ _ (c .before .before .before .before .before .before .if1 .left), ne-eqb _ _ (c .before .before .before .before .before .if2 .left), eq-eqb _ _ (c .before .before .before .before .if3 .taken)) in
-    acted (b .args .s) W (b .pre) (guarantee (figure v 0) (figure v 1) (figure v 2)) call-is
+    let call-is : guarantee (figureAt v 0) (figureAt v 1) (figureAt v 2) ≡ callOf (b .args .s .p) (b .args .letter) v = simp (ne-eqb _ _ (c .before .before .before .before .before .before .if1 .left), ne-eqb _ _ (c .before .before .before .before .before .if2 .left), eq-eqb _ _ (c .before .before .before .before .if3 .taken)) in
+    acted (b .args .s) W (b .pre) (guarantee (figureAt v 0) (figureAt v 1) (figureAt v 2)) call-is
     (c .before .guarantee-in .ensures ∙ (λ i. finish byAccount (b .args .s) W (guaranteeRule (x i) (y i) (z i) (b .args .s) (get byAccount (b .args .s) W))))
 
 act-on-all-requires : tie.Need-act-on-all-requires

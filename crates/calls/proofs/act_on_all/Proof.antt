@@ -1,8 +1,8 @@
 -- The tests are those of `callOnAll`, letter by letter; each branch is one call, and behind the last test nothing is done.
 use mathlib.Core.Path.{_≡_, refl, _∙_, ap}
 use borrow.Author.Tests.{eq-eqb, ne-eqb}
-use Rattle.dayfile.specs.Calls.{Call, begin, step, none}
-use Rattle.calls.specs.Inside.{tradeOf, closeOf, callOnAll}
+use Rattle.dayfile.specs.CallLines.{Call, begin, step, none}
+use Rattle.calls.specs.InsideCalls.{tradeOf, closeOf, callOnAll}
 use Rattle.calls.specs.Ledger.{theLedger}
 use Rattle.calls.specs.LedgerLaws.{acted}
 use borrow.Author.Needs.{needs}

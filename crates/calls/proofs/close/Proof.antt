@@ -5,7 +5,7 @@ use Rattle.places.specs.Place.{get}
 use Rattle.places.specs.Act.{finish}
 use Rattle.places.specs.ByAccount.{byAccount}
 use Rattle.closing.specs.Close.{closeRule}
-use Rattle.calls.specs.Inside.{closeOf}
+use Rattle.calls.specs.InsideCalls.{closeOf}
 use Rattle.calls.specs.LedgerLaws.{acted}
 use Rattle.calls.specs.LedgerLaws.{column-length, column-taken}
 use borrow.Author.Needs.{needs}

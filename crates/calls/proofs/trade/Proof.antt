@@ -5,7 +5,7 @@ use Rattle.places.specs.Place.{get}
 use Rattle.places.specs.Act.{finish}
 use Rattle.places.specs.ByAccount.{byAccount}
 use Rattle.acts.specs.Trade.{tradeRule}
-use Rattle.calls.specs.Inside.{tradeOf}
+use Rattle.calls.specs.InsideCalls.{tradeOf}
 use Rattle.calls.specs.LedgerLaws.{acted}
 use borrow.Author.Needs.{needs}
 use Rattle.calls.proofs.trade.Statement.{statement}

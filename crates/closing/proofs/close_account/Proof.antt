@@ -7,7 +7,7 @@ use lib.IntN.{ℤ}
 use Rattle.closing.specs.Close.{duePuts, bookPuts, accountPuts}
 use Rattle.closing.specs.Seen.{duesSee, booksSee, alike, dues-see, books-see, dues-in, any-due, words-off}
 use Rattle.daily.specs.Alike.{row-same}
-use Rattle.daily.specs.Figures.{newMargin}
+use Rattle.daily.specs.DailyFigures.{newMargin}
 use Rattle.places.specs.ByAccount.{byAccount}
 use Rattle.places.specs.Passes.{Off, agrees, sized-of, then-puts}
 use Rattle.places.specs.Place.{Put, View, _≔_, get, put, puts, dues, margin, each}

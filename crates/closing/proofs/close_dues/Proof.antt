@@ -12,7 +12,7 @@ use Rattle.places.specs.declared.Shape.{Shape}
 use Rattle.places.specs.Place.{Put, each, dues, get, put, puts, due}
 use Rattle.places.specs.ByAccount.{byAccount}
 use Rattle.places.specs.Passes.{length-of, sized-of, more-puts}
-use Rattle.daily.specs.Figures.{newDue}
+use Rattle.daily.specs.DailyFigures.{newDue}
 use Rattle.closing.specs.Close.{duePuts}
 use Rattle.closing.proofs.close_dues.Statement.{statement}
 use Rattle.closing.proofs.close_dues.Tie as tie

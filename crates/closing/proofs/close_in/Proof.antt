@@ -9,7 +9,7 @@ use Rattle.places.specs.Place.{View, get}
 use Rattle.places.specs.ByAccount.{byAccount}
 use Rattle.places.specs.Act.{finish}
 use Rattle.soundness.specs.PerformLaws.{refused-as}
-use Rattle.daily.specs.Figures.{lengthsOk}
+use Rattle.daily.specs.DailyFigures.{lengthsOk}
 use Rattle.daily.specs.Ranges.{Lengths, lengths-of}
 use Rattle.closing.specs.Acts.{refused-2, refused-7, refused-8, taken}
 use borrow.Author.Needs.{needs}

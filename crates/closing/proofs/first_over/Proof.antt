@@ -10,15 +10,15 @@ use lib.IntN.{ℤ, pos, natAbs}
 use lib.ListN.{length, getD}
 use borrow.Author.Count.{below-none, below-more}
 use borrow.Author.Tests.{lt-ltb, le-ltb}
-use Rattle.whole.specs.Below.{total}
-use Rattle.whole.specs.BelowLaws.{total-part, least-is}
+use Rattle.whole.specs.Counting.{total}
+use Rattle.whole.specs.CountingLaws.{total-part, least-is}
 use Rattle.whole.specs.Listed.{length-listed, getD-listed}
 use Rattle.whole.specs.Signs.{back, came}
 use Rattle.rules.specs.Sizes.{mostGross}
 use Rattle.places.specs.declared.Shape.{Shape}
 use Rattle.places.specs.Place.{View, get, dues, cash}
 use Rattle.places.specs.ByAccount.{byAccount}
-use Rattle.daily.specs.Figures.{newDue, newGross, overGross}
+use Rattle.daily.specs.DailyFigures.{newDue, newGross, overGross}
 use Rattle.daily.specs.Ranges.{due-in, next-in}
 use Rattle.closing.proofs.first_over.Statement.{statement}
 use Rattle.closing.proofs.first_over.Tie as tie
@@ -69,16 +69,16 @@ module _ (c : tie.After-new-dues Inv-loop μ-loop Inv-search μ-search) where
   found-long = ap length (c .new-dues .ensures) ∙ length-listed dues (due (searched .before) (searched .search .a))
 
 -- the first due's turn begins at the cash
-cash-is : (c : tie.After-size Inv-loop μ-loop Inv-search μ-search) → let a = c .before .before .before .before .before .before in c .size .result ≡ natAbs (g (a .before) (cash (a .search .a)))
-cash-is c = let w = c .before .acct-word in c .size .ensures ∙ ap natAbs (came (w .result) (w .ok) (w .ensures))
+cash-is : (c : tie.After-nat-abs Inv-loop μ-loop Inv-search μ-search) → let a = c .before .before .before .before .before .before in c .nat-abs .result ≡ natAbs (g (a .before) (cash (a .search .a)))
+cash-is c = let w = c .before .acct-word in c .nat-abs .ensures ∙ ap natAbs (came (w .result) (w .ok) (w .ensures))
 
 -- the size of a new due
-got : (c : tie.After-size2 Inv-loop μ-loop Inv-search μ-search) → let l = c .before .before .before in let a = searched (l .before .before .before .before) in
-    (c .size2 .result ≡ sizes (a .before) (a .search .a) (l .loop .d)) × (sizes (a .before) (a .search .a) (l .loop .d) ≤ 1480000000000000)
+got : (c : tie.After-nat-abs2 Inv-loop μ-loop Inv-search μ-search) → let l = c .before .before .before in let a = searched (l .before .before .before .before) in
+    (c .nat-abs2 .result ≡ sizes (a .before) (a .search .a) (l .loop .d)) × (sizes (a .before) (a .search .a) (l .loop .d) ≤ 1480000000000000)
 got c =
     let l = c .before .before .before in let n = l .before .before .before .before in let a = searched n in let s = a .before in let h : a .search .a < s .args .s .n = omega arith in (
-      c .size2 .ensures
-          ∙ ap natAbs (back (getD (found n) (l .loop .d) (pos 0)) (c .before .size-arg .given) ∙ ap (λ x. getD x (l .loop .d) (pos 0)) (n .new-dues .ensures) ∙ getD-listed dues (due s (a .search .a)) (pos 0) (l .loop .d) (omega arith)),
+      c .nat-abs2 .ensures
+          ∙ ap natAbs (back (getD (found n) (l .loop .d) (pos 0)) (c .before .nat-abs-arg .given) ∙ ap (λ x. getD x (l .loop .d) (pos 0)) (n .new-dues .ensures) ∙ getD-listed dues (due s (a .search .a)) (pos 0) (l .loop .d) (omega arith)),
       due-in (s .args .prices .now) (s .args .s) (g s) (a .search .a) (s .pre .0 .row (a .search .a) h) (s .args .lags .now) (l .loop .d) (s .pre .1 .0 .few′) (next-in (g s) (a .search .a) (l .loop .d) (s .pre .0 .dues-in (a .search .a) h)),
     )
 
@@ -93,22 +93,22 @@ new-dues-requires c κs =
 acct-word-requires : tie.Need-acct-word-requires Inv-loop μ-loop Inv-search μ-search
 acct-word-requires c κs = let s = searched (c .before) .before in (s .pre .1 .0, (omega arith, omega arith))
 
-size-requires : tie.Need-size-requires Inv-loop μ-loop Inv-search μ-search
-size-requires c κs = tt
+nat-abs-requires : tie.Need-nat-abs-requires Inv-loop μ-loop Inv-search μ-search
+nat-abs-requires c κs = tt
 
 loop-holds : tie.Need-loop-holds Inv-loop μ-loop Inv-search μ-search
 loop-holds c =
     let a = c .before .before .before .before .before .before in
     (zero-le, cash-is c ∙ sym (add-zero _), omega (arith, cash-is c, a .before .pre .0 .cash-in (a .search .a) (omega arith)))
 
-mul-size : tie.Need-mul-size Inv-loop μ-loop Inv-search μ-search
-mul-size c = omega arith
+mul-nat-abs : tie.Need-mul-nat-abs Inv-loop μ-loop Inv-search μ-search
+mul-nat-abs c = omega arith
 
-slice-copy-out-size : tie.Need-slice-copy-out-size Inv-loop μ-loop Inv-search μ-search
-slice-copy-out-size c = let l = c .before in omega (arith, found-long (l .before .before .before .before))
+slice-copy-out-nat-abs : tie.Need-slice-copy-out-nat-abs Inv-loop μ-loop Inv-search μ-search
+slice-copy-out-nat-abs c = let l = c .before in omega (arith, found-long (l .before .before .before .before))
 
-size-requires-2 : tie.Need-size-requires-2 Inv-loop μ-loop Inv-search μ-search
-size-requires-2 c κs = tt
+nat-abs-requires-2 : tie.Need-nat-abs-requires-2 Inv-loop μ-loop Inv-search μ-search
+nat-abs-requires-2 c κs = tt
 
 add-gross : tie.Need-add-gross Inv-loop μ-loop Inv-search μ-search
 add-gross c = omega (arith, got c)
@@ -167,11 +167,11 @@ first-over-spec =
     search-holds
     new-dues-requires
     acct-word-requires
-    size-requires
+    nat-abs-requires
     loop-holds
-    mul-size
-    slice-copy-out-size
-    size-requires-2
+    mul-nat-abs
+    slice-copy-out-nat-abs
+    nat-abs-requires-2
     add-gross
     add-d
     loop-less

@@ -15,14 +15,14 @@ cast-k c = search needs
 head-word-requires : tie.Need-head-word-requires
 head-word-requires c κs = search needs
 
-within-requires : tie.Need-within-requires
-within-requires c κs = search needs
+between-requires : tie.Need-between-requires
+between-requires c κs = search needs
 
 returns : tie.Need-returns
 returns c =
     let w = c .before .head-word in let s = c .before .before in
     let e = toZ-pos w64 (s .args .f) (omega arith) in
-    c .within .ensures ∙ λ i. between (e i) (e i) (came (w .result) (w .ok) (w .ensures) i)
+    c .between .ensures ∙ λ i. between (e i) (e i) (came (w .result) (w .ok) (w .ensures) i)
 
 pub phase-is-spec : {M : Type 1} → statement M
-phase-is-spec = tie.close (tie.spec cast-k head-word-requires within-requires returns)
+phase-is-spec = tie.close (tie.spec cast-k head-word-requires between-requires returns)

@@ -6,13 +6,13 @@ use lib.IntN.{ℤ, pos, natAbs, _+ℤ_, +ℤ-idr}
 use lib.ListN.{length, getD, set}
 use mir.Syntax.{w64}
 use mir.Val.{SFits, toZ, ofZ}
-use Rattle.whole.specs.Below.{listed}
+use Rattle.whole.specs.Counting.{listed, figureAt}
 use Rattle.whole.specs.Listed.{length-listed, getD-listed, listed-same}
 use Rattle.whole.specs.Reps.{small}
 use Rattle.whole.specs.Signs.{arg, back, came}
 use Rattle.places.specs.Place.{View, get, dues}
 use Rattle.places.specs.ByAccount.{byAccount}
-use Rattle.daily.specs.Figures.{word, difference, nextDue, newDue}
+use Rattle.daily.specs.DailyFigures.{difference, nextDue, newDue}
 use Rattle.daily.specs.Ranges.{part-in, next-in}
 use Rattle.daily.specs.DueLaws.{part, named, part-more}
 use Rattle.daily.proofs.add_differences.Statement.{statement}
@@ -34,16 +34,16 @@ long : (l : tie.At-loop Inv-loop μ-loop) → length (l .loop .new) ≡ dues
 long l = ap length (l .loop .inv .1) ∙ length-listed dues (parts (l .before) (l .loop .j))
 
 -- the due that the lag names
-lag-is : (c : tie.After-size Inv-loop μ-loop) → let l = c .before .before .before in c .size .result ≡ natAbs (word (l .before .args .lags .now) (l .loop .j))
+lag-is : (c : tie.After-nat-abs Inv-loop μ-loop) → let l = c .before .before .before in c .nat-abs .result ≡ natAbs (figureAt (l .before .args .lags .now) (l .loop .j))
 lag-is c =
     let l = c .before .before .before in
-    c .size .ensures ∙ ap natAbs (back (getD (l .before .args .lags .now) (l .loop .j) (pos 0)) (c .before .size-arg .given))
+    c .nat-abs .ensures ∙ ap natAbs (back (getD (l .before .args .lags .now) (l .loop .j) (pos 0)) (c .before .nat-abs-arg .given))
 
-inside : (c : tie.After-size Inv-loop μ-loop) → c .size .result < dues
+inside : (c : tie.After-nat-abs Inv-loop μ-loop) → c .nat-abs .result < dues
 inside c = let l = c .before .before .before in omega (arith, lag-is c, l .before .pre .1 .1 .1 .0 .names (l .loop .j) (omega arith))
 
 module _ (c : tie.After-new Inv-loop μ-loop) where
-  abbrev z : tie.After-size Inv-loop μ-loop
+  abbrev z : tie.After-nat-abs Inv-loop μ-loop
   z = c .before .before
 
   abbrev l : tie.At-loop Inv-loop μ-loop
@@ -53,13 +53,13 @@ module _ (c : tie.After-new Inv-loop μ-loop) where
   s = l .before
 
   abbrev k : ℕ
-  k = natAbs (word (s .args .lags .now) (l .loop .j))
+  k = natAbs (figureAt (s .args .lags .now) (l .loop .j))
 
-  sum-is : toZ w64 (ofZ w64 (getD (l .loop .new) (z .size .result) (pos 0))) +ℤ toZ w64 (ofZ w64 (c .before .difference .result)) ≡ parts s (l .loop .j) k +ℤ difference (s .args .prices .now) (g s) (s .args .a) (l .loop .j)
+  sum-is : toZ w64 (ofZ w64 (getD (l .loop .new) (z .nat-abs .result) (pos 0))) +ℤ toZ w64 (ofZ w64 (c .before .difference .result)) ≡ parts s (l .loop .j) k +ℤ difference (s .args .prices .now) (g s) (s .args .a) (l .loop .j)
   sum-is =
       let w = c .before .difference in
       ap₂ (λ x y. x +ℤ y)
-      (back (getD (l .loop .new) (z .size .result) (pos 0)) (c .new .given) ∙ (λ i. getD (l .loop .inv .1 i) (lag-is z i) (pos 0)) ∙ getD-listed dues (parts s (l .loop .j)) (pos 0) k (omega (arith, lag-is z, inside z)))
+      (back (getD (l .loop .new) (z .nat-abs .result) (pos 0)) (c .new .given) ∙ (λ i. getD (l .loop .inv .1 i) (lag-is z i) (pos 0)) ∙ getD-listed dues (parts s (l .loop .j)) (pos 0) k (omega (arith, lag-is z, inside z)))
       (came (w .result) (w .ok) (w .ensures))
 
   fits : SFits w64 (parts s (l .loop .j) k +ℤ difference (s .args .prices .now) (g s) (s .args .a) (l .loop .j))
@@ -71,14 +71,14 @@ module _ (c : tie.After-new Inv-loop μ-loop) where
 loop-holds : tie.Need-loop-holds Inv-loop μ-loop
 loop-holds c = (zero-le, c .pre .1 .1 .1 .1 .1 ∙ listed-same dues (nextDue (g c) (c .args .a)) (parts c 0) (λ d h. sym (+ℤ-idr (nextDue (g c) (c .args .a) d))))
 
-mul-size : tie.Need-mul-size Inv-loop μ-loop
-mul-size c = omega (arith, c .before .before .pre .1 .1 .1 .0 .long)
+mul-nat-abs : tie.Need-mul-nat-abs Inv-loop μ-loop
+mul-nat-abs c = omega (arith, c .before .before .pre .1 .1 .1 .0 .long)
 
-shared-slice-copy-out-size : tie.Need-shared-slice-copy-out-size Inv-loop μ-loop
-shared-slice-copy-out-size c = omega (arith, c .before .before .pre .1 .1 .1 .0 .long)
+shared-slice-copy-out-nat-abs : tie.Need-shared-slice-copy-out-nat-abs Inv-loop μ-loop
+shared-slice-copy-out-nat-abs c = omega (arith, c .before .before .pre .1 .1 .1 .0 .long)
 
-size-requires : tie.Need-size-requires Inv-loop μ-loop
-size-requires c κs = tt
+nat-abs-requires : tie.Need-nat-abs-requires Inv-loop μ-loop
+nat-abs-requires c κs = tt
 
 difference-requires : tie.Need-difference-requires Inv-loop μ-loop
 difference-requires c κs = let s = c .before .before .before .before in (s .pre .0, (s .pre .1 .0, (s .pre .1 .1 .1 .1 .0, omega arith)))
@@ -129,9 +129,9 @@ add-differences-spec =
     Inv-loop
     μ-loop
     loop-holds
-    mul-size
-    shared-slice-copy-out-size
-    size-requires
+    mul-nat-abs
+    shared-slice-copy-out-nat-abs
+    nat-abs-requires
     difference-requires
     mul-new
     slice-copy-out-new

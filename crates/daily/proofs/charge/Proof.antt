@@ -6,6 +6,7 @@ use lib.IntN.{ℤ, pos}
 use lib.ListN.{length, getD}
 use mir.Syntax.{w64}
 use mir.Val.{toZ, ofZ}
+use Rattle.whole.specs.Counting.{figureAt}
 use Rattle.whole.specs.Signs.{back, came}
 use Rattle.rules.specs.Sizes.{mostRate}
 use Rattle.rules.specs.declared.Product.{Product}
@@ -14,7 +15,6 @@ use Rattle.rules.specs.ProductLaws.{rate-in, at-least, at-most}
 use Rattle.places.specs.Place.{View, get, floorMark, lots}
 use Rattle.places.specs.ByAccount.{byAccount}
 use Rattle.soundness.specs.Sound.{productAt}
-use Rattle.daily.specs.Figures.{word}
 use borrow.Author.Needs.{needs}
 use Rattle.daily.proofs.charge.Statement.{statement}
 use Rattle.daily.proofs.charge.Tie as tie
@@ -37,13 +37,13 @@ module _ (c : tie.After-margin-of-arg) where
   s = y .before .before .before .before
 
   abbrev rate : ℤ
-  rate = rateOf (g s (floorMark (s .args .j))) (word (s .args .rates8 .now) (s .args .j)) (word (s .args .rates104 .now) (s .args .j))
+  rate = rateOf (g s (floorMark (s .args .j))) (figureAt (s .args .rates8 .now) (s .args .j)) (figureAt (s .args .rates104 .now) (s .args .j))
 
   lots-is : toZ w64 (ofZ w64 (y .before .held-word .result)) ≡ g s (lots (s .args .a) (s .args .j))
   lots-is = let w = y .before .held-word in came (w .result) (w .ok) (w .ensures)
 
-  price-is : toZ w64 (ofZ w64 (getD (s .args .prices .now) (y .yen-product .result) (pos 0))) ≡ word (s .args .prices .now) (yenProduct (productAt (g s) (s .args .j)) (s .args .j))
-  price-is = back (getD (s .args .prices .now) (y .yen-product .result) (pos 0)) (c .margin-of-arg .given) ∙ ap (word (s .args .prices .now)) (yen-is y)
+  price-is : toZ w64 (ofZ w64 (getD (s .args .prices .now) (y .yen-product .result) (pos 0))) ≡ figureAt (s .args .prices .now) (yenProduct (productAt (g s) (s .args .j)) (s .args .j))
+  price-is = back (getD (s .args .prices .now) (y .yen-product .result) (pos 0)) (c .margin-of-arg .given) ∙ ap (figureAt (s .args .prices .now)) (yen-is y)
 
   rate-is : toZ w64 (ofZ w64 (c .before .rate-of .result)) ≡ rate
   rate-is =
@@ -83,8 +83,8 @@ shared-slice-copy-out-margin-of c = inside (c .before .before .before)
 
 margin-of-requires : tie.Need-margin-of-requires
 margin-of-requires c κs =
-    let t = s c in let j = t .args .j in let h = t .pre .1 .1 .1 .1 in let cell = t .pre .1 .0 .at j h in let y = word (t .args .prices .now) (yenProduct (productAt (g t) j) j) in
-    let k = rate-in (g t (floorMark j)) (word (t .args .rates8 .now) j) (word (t .args .rates104 .now) j) (t .pre .1 .1 .0 .in8 j h) (t .pre .1 .1 .0 .in104 j h) in
+    let t = s c in let j = t .args .j in let h = t .pre .1 .1 .1 .1 in let cell = t .pre .1 .0 .at j h in let y = figureAt (t .args .prices .now) (yenProduct (productAt (g t) j) j) in
+    let k = rate-in (g t (floorMark j)) (figureAt (t .args .rates8 .now) j) (figureAt (t .args .rates104 .now) j) (t .pre .1 .1 .0 .in8 j h) (t .pre .1 .1 .0 .in104 j h) in
     rw (lots-is c, price-is c, rate-is c) (cell .lots-in, (at-least 1 5000000 y (cell .yen-price), (at-most 1 5000000 y (cell .yen-price), (at-least 1 mostRate (rate c) k, at-most 1 mostRate (rate c) k))))
 
 returns : tie.Need-returns

@@ -6,7 +6,7 @@ use lib.IntN.{pos, natAbs}
 use lib.ListN.{length, getD}
 use mir.Syntax.{w64}
 use mir.Val.{toZ, ofZ}
-use Rattle.daily.specs.Figures.{word}
+use Rattle.whole.specs.Counting.{figureAt}
 use Rattle.daily.specs.Ranges.{fair}
 use Rattle.places.specs.ByAccount.{byAccount}
 use Rattle.places.specs.Place.{View, get, productKind, lots, book, quote}
@@ -19,11 +19,11 @@ use Rattle.daily.proofs.difference.Tie as tie
 abbrev g : tie.Start → View
 g s = get byAccount (s .args .s) (s .args .words .now)
 
-quote-is : (c : tie.After-size) → let s = c .before .before .before .before .before in c .size .result ≡ natAbs (g s (quote (s .args .j)))
-quote-is c = let w = c .before .prod-word2 in c .size .ensures ∙ ap natAbs (came (w .result) (w .ok) (w .ensures))
+quote-is : (c : tie.After-nat-abs) → let s = c .before .before .before .before .before in c .nat-abs .result ≡ natAbs (g s (quote (s .args .j)))
+quote-is c = let w = c .before .prod-word2 in c .nat-abs .ensures ∙ ap natAbs (came (w .result) (w .ok) (w .ensures))
 
 -- the index of the quote's price
-inside : (c : tie.After-size) → let s = c .before .before .before .before .before in c .size .result < length (s .args .prices .now)
+inside : (c : tie.After-nat-abs) → let s = c .before .before .before .before .before in c .nat-abs .result < length (s .args .prices .now)
 inside c = let s = c .before .before .before .before .before in omega (arith, quote-is c, s .pre .1 .0 .at (s .args .j) (s .pre .1 .1 .1) .quote-in, s .pre .1 .0 .priced)
 
 -- the five figures, as the code passes them
@@ -40,11 +40,11 @@ module _ (c : tie.After-difference-of-arg2) where
   book-is : toZ w64 (ofZ w64 (c .before .before .before .before .held-word2 .result)) ≡ g s (book (s .args .a) (s .args .j))
   book-is = let w = c .before .before .before .before .held-word2 in came (w .result) (w .ok) (w .ensures)
 
-  price-is : toZ w64 (ofZ w64 (getD (s .args .prices .now) (s .args .j) (pos 0))) ≡ word (s .args .prices .now) (s .args .j)
+  price-is : toZ w64 (ofZ w64 (getD (s .args .prices .now) (s .args .j) (pos 0))) ≡ figureAt (s .args .prices .now) (s .args .j)
   price-is = back (getD (s .args .prices .now) (s .args .j) (pos 0)) (c .before .difference-of-arg .given)
 
-  quoted-is : toZ w64 (ofZ w64 (getD (s .args .prices .now) (c .before .before .size .result) (pos 0))) ≡ word (s .args .prices .now) (natAbs (g s (quote (s .args .j))))
-  quoted-is = back (getD (s .args .prices .now) (c .before .before .size .result) (pos 0)) (c .difference-of-arg2 .given) ∙ ap (word (s .args .prices .now)) (quote-is (c .before .before))
+  quoted-is : toZ w64 (ofZ w64 (getD (s .args .prices .now) (c .before .before .nat-abs .result) (pos 0))) ≡ figureAt (s .args .prices .now) (natAbs (g s (quote (s .args .j))))
+  quoted-is = back (getD (s .args .prices .now) (c .before .before .nat-abs .result) (pos 0)) (c .difference-of-arg2 .given) ∙ ap (figureAt (s .args .prices .now)) (quote-is (c .before .before))
 
 prod-word-requires : tie.Need-prod-word-requires
 prod-word-requires c κs = search needs
@@ -58,8 +58,8 @@ held-word-requires-2 c κs = search needs
 prod-word-requires-2 : tie.Need-prod-word-requires-2
 prod-word-requires-2 c κs = search needs
 
-size-requires : tie.Need-size-requires
-size-requires c κs = search needs
+nat-abs-requires : tie.Need-nat-abs-requires
+nat-abs-requires c κs = search needs
 
 mul-difference-of : tie.Need-mul-difference-of
 mul-difference-of c = search needs
@@ -91,7 +91,7 @@ difference-spec =
     held-word-requires
     held-word-requires-2
     prod-word-requires-2
-    size-requires
+    nat-abs-requires
     mul-difference-of
     shared-slice-copy-out-difference-of
     mul-difference-of-2

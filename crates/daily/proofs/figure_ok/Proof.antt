@@ -1,23 +1,23 @@
 -- `figure_ok` meets its contract: four tests. Assumes nothing.
 use mathlib.Core.Path.{_≡_, ap, _∙_}
 use lib.IntN.{pos}
+use Rattle.whole.specs.Counting.{figureAt}
 use Rattle.whole.specs.Number.{between}
 use Rattle.whole.specs.Signs.{came}
 use Rattle.whole.specs.Tests.{fails, holds}
 use Rattle.rules.specs.Sizes.{mostPrice}
 use Rattle.places.specs.Place.{get, productKind}
 use Rattle.places.specs.ByAccount.{byAccount}
-use Rattle.daily.specs.Figures.{word}
 use borrow.Author.Needs.{needs}
 use Rattle.daily.proofs.figure_ok.Statement.{statement}
 use Rattle.daily.proofs.figure_ok.Tie as tie
 
 -- the first test is of the price, against its kind's bound
 priced : (c : tie.After-word-between) → let s = c .before .before in
-    c .word-between .result ≡ between (pos 1) (pos (mostPrice (get byAccount (s .args .s) (s .args .words .now) (productKind (s .args .j))))) (word (s .args .prices .now) (s .args .j))
+    c .word-between .result ≡ between (pos 1) (pos (mostPrice (get byAccount (s .args .s) (s .args .words .now) (productKind (s .args .j))))) (figureAt (s .args .prices .now) (s .args .j))
 priced c =
     let s = c .before .before in let h = c .before .highest-price in
-    c .word-between .ensures ∙ ap (λ z. between (pos 1) z (word (s .args .prices .now) (s .args .j))) (came (h .result) (h .ok) (h .ensures))
+    c .word-between .ensures ∙ ap (λ z. between (pos 1) z (figureAt (s .args .prices .now) (s .args .j))) (came (h .result) (h .ok) (h .ensures))
 
 highest-price-requires : tie.Need-highest-price-requires
 highest-price-requires c κs = search needs

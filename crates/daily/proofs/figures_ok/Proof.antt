@@ -5,12 +5,12 @@ use mathlib.Core.Path.{_≡_, refl, sym}
 use mathlib.Core.Bool.{Bool, true}
 use mathlib.Core.List.{List}
 use lib.IntN.{ℤ}
-use Rattle.daily.specs.Figures.{figureOk}
+use Rattle.daily.specs.DailyFigures.{figureOk}
 use Rattle.places.specs.ByAccount.{byAccount}
 use Rattle.places.specs.declared.Shape.{Shape}
 use Rattle.places.specs.Place.{get}
-use Rattle.whole.specs.Below.{all}
-use Rattle.whole.specs.BelowLaws.{all-fails, all-more}
+use Rattle.whole.specs.Counting.{all}
+use Rattle.whole.specs.CountingLaws.{all-fails, all-more}
 use Rattle.whole.specs.Tests.{holds, fails}
 use Rattle.daily.proofs.figures_ok.Statement.{statement}
 use Rattle.daily.proofs.figures_ok.Tie as tie

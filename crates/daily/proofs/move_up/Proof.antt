@@ -10,7 +10,7 @@ use Rattle.whole.specs.Listed.{filled, filled-none, filled-step, filled-all, le
 use Rattle.places.specs.declared.Shape.{Shape}
 use Rattle.places.specs.Place.{dues, get}
 use Rattle.places.specs.ByAccount.{byAccount}
-use Rattle.daily.specs.Figures.{nextDue}
+use Rattle.daily.specs.DailyFigures.{nextDue}
 use Rattle.daily.proofs.move_up.Statement.{statement}
 use Rattle.daily.proofs.move_up.Tie as tie
 

@@ -5,7 +5,8 @@ use lib.IntN.{ℤ, pos, _*ℤ_}
 use lib.ListN.{getD}
 use mir.Syntax.{w64}
 use mir.Val.{SFits, toZ, ofZ}
-use Rattle.daily.specs.Figures.{word, newBook}
+use Rattle.whole.specs.Counting.{figureAt}
+use Rattle.daily.specs.DailyFigures.{newBook}
 use Rattle.places.specs.ByAccount.{byAccount}
 use Rattle.places.specs.Place.{get, lots}
 use Rattle.rules.specs.ProductLaws.{times-in}
@@ -28,7 +29,7 @@ module _ (c : tie.After-result) where
       ap₂ (λ x y. x *ℤ y) (came (w .result) (w .ok) (w .ensures)) (back (getD (s .args .prices .now) (s .args .j) (pos 0)) (c .result .given))
 
   fits : SFits w64 book
-  fits = small book 5000000000000 (times-in (get byAccount (s .args .s) (s .args .words .now) (lots (s .args .a) (s .args .j))) (word (s .args .prices .now) (s .args .j)) (s .pre .1 .1 .0) (s .pre .1 .1 .1)) (omega arith)
+  fits = small book 5000000000000 (times-in (get byAccount (s .args .s) (s .args .words .now) (lots (s .args .a) (s .args .j))) (figureAt (s .args .prices .now) (s .args .j)) (s .pre .1 .1 .0) (s .pre .1 .1 .1)) (omega arith)
 
 held-word-requires : tie.Need-held-word-requires
 held-word-requires c κs = search needs

@@ -7,12 +7,12 @@ use native.Mathlib.Omega.{arith}
 use lib.IntN.{ℤ, pos, _+ℤ_}
 use mir.Syntax.{w64}
 use mir.Val.{SFits, toZ, ofZ}
-use Rattle.daily.specs.Figures.{charge, newMargin}
+use Rattle.daily.specs.DailyFigures.{charge, newMargin}
 use Rattle.daily.specs.Ranges.{charges-in}
 use Rattle.places.specs.ByAccount.{byAccount}
 use Rattle.places.specs.declared.Shape.{Shape}
 use Rattle.places.specs.Place.{get}
-use Rattle.whole.specs.Below.{total}
+use Rattle.whole.specs.Counting.{total}
 use Rattle.whole.specs.Reps.{small}
 use Rattle.whole.specs.Signs.{arg, came}
 use Rattle.daily.proofs.new_margin.Statement.{statement}

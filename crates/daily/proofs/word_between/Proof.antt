@@ -8,20 +8,20 @@ use borrow.Author.Needs.{needs}
 use Rattle.daily.proofs.word_between.Statement.{statement}
 use Rattle.daily.proofs.word_between.Tie as tie
 
-mul-within : tie.Need-mul-within
-mul-within c = search needs
+mul-between : tie.Need-mul-between
+mul-between c = search needs
 
-shared-slice-copy-out-within : tie.Need-shared-slice-copy-out-within
-shared-slice-copy-out-within c = search needs
+shared-slice-copy-out-between : tie.Need-shared-slice-copy-out-between
+shared-slice-copy-out-between c = search needs
 
-within-requires : tie.Need-within-requires
-within-requires c κs = search needs
+between-requires : tie.Need-between-requires
+between-requires c κs = search needs
 
 returns : tie.Need-returns
 returns c =
     let s = c .before .before in
-    c .within .ensures ∙ λ i. between (arg (s .fits .lo) i) (arg (s .fits .hi) i) (back (getD (s .args .list .now) (s .args .j) (pos 0)) (c .before .within-arg .given) i)
+    c .between .ensures ∙ λ i. between (arg (s .fits .lo) i) (arg (s .fits .hi) i) (back (getD (s .args .list .now) (s .args .j) (pos 0)) (c .before .between-arg .given) i)
 
 pub word-between-spec : {M : Type 1} → statement M
 word-between-spec =
-    tie.close (tie.spec mul-within shared-slice-copy-out-within within-requires returns)
+    tie.close (tie.spec mul-between shared-slice-copy-out-between between-requires returns)

@@ -11,7 +11,7 @@ use Rattle.lines.specs.Bytes.{bytes}
 use Rattle.lines.specs.Lines.{lost}
 use Rattle.lines.specs.Print.{badLine}
 use Rattle.lines.proofs.WriteLaws.{wrote-none, wrote-more, wrote-done}
-use Rattle.dayfile.specs.Calls.{callsAt}
+use Rattle.dayfile.specs.CallLines.{callsAt}
 use Rattle.dayfile.specs.Day.{Day, bodiesOf}
 use Rattle.dayfile.proofs.HeadLaws.{Head, bodies-head}
 use Rattle.places.specs.ByAccount.{byAccount}

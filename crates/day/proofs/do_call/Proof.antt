@@ -9,12 +9,12 @@ use lib.Seq.{sets, length-take-le}
 use mir.Syntax.{w64}
 use mir.Facts.{toZ-ofZ}
 use Rattle.lines.proofs.WriteLaws.{take-figures}
-use Rattle.dayfile.specs.Calls.{callAt, callOf}
-use Rattle.dayfile.specs.Inside.{givenOf}
-use Rattle.day.specs.Inside.{doneAt}
+use Rattle.dayfile.specs.CallLines.{callAt, callOf}
+use Rattle.dayfile.specs.InsideDayfile.{givenOf}
+use Rattle.day.specs.InsideDay.{doneAt}
 use Rattle.calls.specs.Ledger.{theLedger}
 use Rattle.day.specs.Sheet.{replyLine}
-use Rattle.day.proofs.RunLaws.{call-length}
+use Rattle.day.proofs.CallsPartLaws.{call-length}
 use Rattle.rules.specs.declared.Reply.{Reply}
 use borrow.Author.Needs.{needs}
 use Rattle.day.proofs.do_call.Statement.{statement}

@@ -11,7 +11,7 @@ use Rattle.dayfile.proofs.DayLaws.{account-inside}
 use Rattle.calls.specs.Ledger.{theLedger}
 use Rattle.calls.specs.LedgerLaws.{long}
 use Rattle.day.specs.Sheet.{accountNumbers, accountsPart, housePart, endPart}
-use Rattle.day.proofs.RunLaws.{accounts-more, accounts-none, accounts-all}
+use Rattle.day.proofs.CallsPartLaws.{accounts-more, accounts-none, accounts-all}
 use Rattle.day.proofs.put_end.Statement.{statement}
 use Rattle.day.proofs.put_end.Tie as tie
 

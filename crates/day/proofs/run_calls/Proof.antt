@@ -8,12 +8,12 @@ use lib.ListN.{length, getD}
 use Rattle.places.specs.ByAccount.{byAccount}
 use Rattle.soundness.specs.SoundLaws.{Ledger}
 use Rattle.lines.proofs.WriteLaws.{Wrote, wrote-none, wrote-more, wrote-done}
-use Rattle.dayfile.specs.Calls.{callAt, callOf, callsAt}
-use Rattle.day.specs.Inside.{doneAt}
+use Rattle.dayfile.specs.CallLines.{callAt, callOf, callsAt}
+use Rattle.day.specs.InsideDay.{doneAt}
 use Rattle.calls.specs.Ledger.{theLedger}
 use Rattle.calls.specs.LedgerLaws.{keeps}
 use Rattle.day.specs.Sheet.{replyLine, endPart, callsPart}
-use Rattle.day.proofs.RunLaws.{calls-more, calls-none}
+use Rattle.day.proofs.CallsPartLaws.{calls-more, calls-none}
 use Rattle.day.proofs.SheetLaws.{reply-length}
 use borrow.Author.Needs.{needs}
 use Rattle.day.proofs.run_calls.Statement.{statement}

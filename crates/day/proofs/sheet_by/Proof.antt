@@ -6,7 +6,7 @@ use lib.IntN.{pos}
 use lib.ListN.{length, take, length-replicate}
 use lib.Seq.{sets, length-take-le}
 use Rattle.dayfile.specs.Day.{bodiesOf}
-use Rattle.dayfile.specs.Inside.{Modest}
+use Rattle.dayfile.specs.InsideDayfile.{Modest}
 use Rattle.dayfile.specs.Words.{lengthOf}
 use Rattle.dayfile.proofs.ContentsLaws.{contents-modest}
 use Rattle.calls.specs.Ledger.{theLedger}

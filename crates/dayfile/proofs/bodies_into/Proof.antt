@@ -1,7 +1,7 @@
 -- `bodies_into` meets its contract: the calls start where the positions ended. Assumes nothing.
 use mathlib.Core.Path.{ap}
 use native.Mathlib.Omega.{arith}
-use Rattle.lines.specs.declared.Place.{Place}
+use Rattle.lines.specs.declared.LineStart.{LineStart}
 use Rattle.dayfile.proofs.BodyLaws.{start-line, bodies-are}
 use borrow.Author.Needs.{needs}
 use Rattle.dayfile.proofs.bodies_into.Statement.{statement}
@@ -17,7 +17,7 @@ calls-requires : tie.Need-calls-requires
 calls-requires c κs =
     let s = c .before .before .before .before .before in
     let m = s .pre .0 in
-    let is = ap (λ (q : Place). q .line) (c .before .before .start-into .ensures .0) in
+    let is = ap (λ (q : LineStart). q .line) (c .before .before .start-into .ensures .0) in
     (omega (arith, m, is, start-line (s .args .text .now) (s .args .c)), (m .products-few, omega arith))
 
 end-of-requires : tie.Need-end-of-requires

@@ -7,7 +7,7 @@ use borrow.Author.Tests.{lt-ltb, le-ltb}
 use lib.ListN.{getD}
 use lib.Seq.{sets}
 use Rattle.lines.specs.Lines.{past, figuresAt}
-use Rattle.dayfile.specs.Calls.{mostFigures, figuresOf, gap, callAt}
+use Rattle.dayfile.specs.CallLines.{mostFigures, figuresOf, gap, callAt}
 use Rattle.dayfile.proofs.DayLaws.{call-inside}
 use borrow.Author.Needs.{needs}
 use Rattle.dayfile.proofs.call_line.Statement.{statement}

@@ -4,9 +4,9 @@ use Prim.Native.Nat.{_-_}
 use native.Mathlib.Omega.{arith}
 use borrow.Author.Needs.{needs}
 use lib.ListN.{length}
-use Rattle.lines.specs.Lines.{placeOf}
+use Rattle.lines.specs.Lines.{lineStartOf}
 use Rattle.lines.proofs.LineLaws.{Onward, onward-none, onward-more, onward-bad, onward-done, line-by}
-use Rattle.dayfile.specs.Calls.{callLine, callsFrom}
+use Rattle.dayfile.specs.CallLines.{callLine, callsFrom}
 use Rattle.dayfile.proofs.calls.Statement.{statement}
 use Rattle.dayfile.proofs.calls.Tie as tie
 
@@ -32,7 +32,7 @@ returns c =
     let a = c .before .before .before .before .before .before .before .args in
     let k = c .before .before .call-line in
     let is = line-by {g = tt} (k .ensures .0) refl in
-    ap placeOf (onward-bad (callLine (a .text .now) (a .p)) (l .inv .0) (omega arith) (record { next = k .result; held = tt }) is (c .if1 .taken))
+    ap lineStartOf (onward-bad (callLine (a .text .now) (a .p)) (l .inv .0) (omega arith) (record { next = k .result; held = tt }) is (c .if1 .taken))
 
 add-line : tie.Need-add-line Inv-loop μ-loop
 add-line c = omega arith
@@ -59,7 +59,7 @@ unfolding callsFrom
 returns-2 c =
     let l = c .before .loop in
     let a = c .before .before .before .args in
-    ap placeOf (onward-done (callLine (a .text .now) (a .p)) (l .inv .0) (omega arith))
+    ap lineStartOf (onward-done (callLine (a .text .now) (a .p)) (l .inv .0) (omega arith))
 
 pub calls-spec : {M : Type 1} → statement M
 calls-spec =

@@ -12,7 +12,7 @@ use lib.ListN.{length, drop, set, length-set}
 use lib.Seq.{sets}
 use mir.Syntax.{w64}
 use mir.Facts.{toZ-ofZ}
-use Rattle.dayfile.specs.Calls.{column}
+use Rattle.dayfile.specs.CallLines.{column}
 use Rattle.dayfile.proofs.DayLaws.{column-more}
 use Rattle.dayfile.proofs.column_into.Statement.{statement}
 use Rattle.dayfile.proofs.column_into.Tie as tie

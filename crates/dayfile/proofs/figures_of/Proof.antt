@@ -1,6 +1,6 @@
 -- The tests are those of the definition, letter by letter.
 use borrow.Author.Tests.{eq-eqb, ne-eqb}
-use Rattle.dayfile.specs.Calls.{figuresOf}
+use Rattle.dayfile.specs.CallLines.{figuresOf}
 use borrow.Author.Needs.{needs}
 use Rattle.dayfile.proofs.figures_of.Statement.{statement}
 use Rattle.dayfile.proofs.figures_of.Tie as tie

@@ -3,8 +3,8 @@ use mathlib.Core.Path.{subst}
 use Prim.Native.Nat.{ℕ, _≤_, _<_}
 use native.Mathlib.Omega.{arith}
 use borrow.Author.Tests.{lt-ltb, le-ltb}
-use Rattle.dayfile.specs.Calls.{mostFigures, figuresOf}
-use Rattle.dayfile.specs.Inside.{givenOf}
+use Rattle.dayfile.specs.CallLines.{mostFigures, figuresOf}
+use Rattle.dayfile.specs.InsideDayfile.{givenOf}
 use borrow.Author.Needs.{needs}
 use Rattle.dayfile.proofs.given_of.Statement.{statement}
 use Rattle.dayfile.proofs.given_of.Tie as tie

@@ -1,7 +1,7 @@
 -- The two cases of the gap.
 use mathlib.Core.Path.{sym, _∙_, ap}
 use Rattle.lines.specs.Lines.{past}
-use Rattle.dayfile.specs.Calls.{gap}
+use Rattle.dayfile.specs.CallLines.{gap}
 use Rattle.dayfile.proofs.DayLaws.{gap-more}
 use borrow.Author.Needs.{needs}
 use Rattle.dayfile.proofs.past_gap.Statement.{statement}

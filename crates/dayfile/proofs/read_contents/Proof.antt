@@ -41,7 +41,7 @@ use Rattle.dayfile.specs.declared.Contents.{Contents}
 use Rattle.dayfile.proofs.ContentsLaws.{contents-are}
 use Rattle.dayfile.proofs.View.{text, decl, laws, low, held, placed}
 use Rattle.dayfile.proofs.Thin.{Says}
-use Rattle.dayfile.proofs.Called.{Of, called-low}
+use Rattle.dayfile.proofs.CallStep.{Of, called-low}
 use Rattle.dayfile.proofs.Reading as R
 use Rattle.dayfile.proofs.Reading.{MovedOf, ThinOf}
 use Rattle.dayfile.proofs.Counted as K

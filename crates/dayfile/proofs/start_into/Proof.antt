@@ -8,7 +8,7 @@ use lib.ListN.{length, set, length-set, length-replicate}
 use mir.Syntax.{w64}
 use mir.Val.{toZ}
 use mir.Facts.{toZ-pos}
-use Rattle.lines.specs.declared.Place.{Place}
+use Rattle.lines.specs.declared.LineStart.{LineStart}
 use Rattle.dayfile.specs.Words.{lengthOf, freshWords}
 use Rattle.dayfile.specs.declared.Contents.{Contents}
 use Rattle.dayfile.proofs.BodyLaws.{products-line, accounts-line, start-is}
@@ -48,7 +48,7 @@ module _ (c : tie.After-products) where
 
   line-one : c .products .result .line ≤ table one .line + table one .products
   line-one =
-      let is = ap (λ (q : Place). q .line) (c .products .ensures .0) in
+      let is = ap (λ (q : LineStart). q .line) (c .products .ensures .0) in
       omega (arith, is, products-line (one .args .text .now) (table one .at) (table one .line) (table one .products) (fresh one))
 
 module _ (c : tie.After-accounts) where
@@ -63,7 +63,7 @@ module _ (c : tie.After-accounts) where
 
   line-two : c .accounts .result .line ≤ table two .line + table two .products + table two .accounts
   line-two =
-      let is = ap (λ (q : Place). q .line) (c .accounts .ensures .0) in
+      let is = ap (λ (q : LineStart). q .line) (c .accounts .ensures .0) in
       let p = behind .products in
       omega (arith, is, line-one behind, accounts-line (two .args .text .now) (p .result .at) (p .result .line) (table two .products) (table two .accounts) (p .last .1 .1 .1 .1 .0))
 

@@ -2,11 +2,11 @@
 use mathlib.Core.Path.{_≡_, refl}
 use Prim.Native.Nat.{ℕ, zero, suc}
 use borrow.Author.Needs.{needs}
-use Rattle.lines.specs.Lines.{closing}
+use Rattle.lines.specs.Lines.{closeOf}
 use Rattle.lines.proofs.close_of.Statement.{statement}
 use Rattle.lines.proofs.close_of.Tie as tie
 
-more : (k : ℕ) → (k ≡ 0 → ⊥) → 32 ≡ closing k
+more : (k : ℕ) → (k ≡ 0 → ⊥) → 32 ≡ closeOf k
 more zero h = absurd (h refl)
 more (suc k) h = refl
 

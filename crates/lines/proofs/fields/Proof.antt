@@ -2,7 +2,7 @@
 use mir.Syntax.{w64}
 use mir.Facts.{toZ-ofZ}
 use lib.Seq.{sets}
-use Rattle.lines.specs.Lines.{fieldAt, Figures}
+use Rattle.lines.specs.Lines.{fieldAt, FiguresRead}
 use Rattle.lines.proofs.FieldLaws.{Filled, filled-more, filled-end}
 use mathlib.Core.Path.{refl, sym, _∙_, ap}
 use native.Mathlib.Omega.{arith}
@@ -56,7 +56,7 @@ returns c =
     let l = c .before .loop in
     let a = c .before .before .before .args in
     let e = filled-end (a .text .now) (l .at) (l .left) (omega arith) in
-    (sym (l .inv .ends ∙ ap (λ (f : Figures). f .next) e), sym (l .inv .held ∙ ap (λ (f : Figures). sets (l .out) (l .i) (f .values)) e))
+    (sym (l .inv .ends ∙ ap (λ (f : FiguresRead). f .next) e), sym (l .inv .held ∙ ap (λ (f : FiguresRead). sets (l .out) (l .i) (f .values)) e))
 
 pub fields-spec : {M : Type 1} → statement M
 fields-spec =

@@ -10,7 +10,7 @@ use lib.ListN.{length, drop, getD, drop-of-length-le}
 use lib.Seq.{sets}
 use mir.Syntax.{w64}
 use mir.Facts.{toZ-ofZ}
-use Rattle.lines.specs.Lines.{closing}
+use Rattle.lines.specs.Lines.{closeOf}
 use Rattle.lines.specs.Print.{field, numbersLine}
 use Rattle.lines.proofs.PrintLaws.{line-more, line-none, field-length}
 use Rattle.lines.proofs.WriteLaws.{Wrote, wrote-none, wrote-more, wrote-done}
@@ -55,11 +55,11 @@ loop-again c =
     let h : SFits w64 (getD (a .numbers .now) (l .i) (pos 0)) = by (search whole depth 20) (omega facts) in
     let x-is = toZ-ofZ {w = w64} h in
     let close-is = c .before .before .before .close-of .ensures in
-    let piece = field (getD (a .numbers .now) (l .i) (pos 0)) (closing (length (a .numbers .now) - (l .i + 1))) in
+    let piece = field (getD (a .numbers .now) (l .i) (pos 0)) (closeOf (length (a .numbers .now) - (l .i + 1))) in
     let r-is : k .result ≡ l .at + length piece = k .ensures .0 ∙ (λ j. l .at + length (field (x-is j) (close-is j))) in
     let out-is : k .last .0 ≡ sets (l .out) (l .at) piece = k .ensures .1 ∙ (λ j. sets (l .out) (l .at) (field (x-is j) (close-is j))) in (
       omega arith,
-      omega (arith, r-is, k .kept .0, field-length (getD (a .numbers .now) (l .i) (pos 0)) (closing (length (a .numbers .now) - (l .i + 1)))),
+      omega (arith, r-is, k .kept .0, field-length (getD (a .numbers .now) (l .i) (pos 0)) (closeOf (length (a .numbers .now) - (l .i + 1)))),
       wrote-more (l .inv .2) piece (numbersLine (drop (l .i + 1) (a .numbers .now))) (line-more (a .numbers .now) (l .i) (omega arith)) r-is out-is,
     )
 

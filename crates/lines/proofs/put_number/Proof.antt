@@ -20,8 +20,8 @@ slice-write-out c = search needs
 add-put-digits : tie.Need-add-put-digits
 add-put-digits c = search needs
 
-size-requires : tie.Need-size-requires
-size-requires c κs = search needs
+nat-abs-requires : tie.Need-nat-abs-requires
+nat-abs-requires c κs = search needs
 
 put-digits-requires : tie.Need-put-digits-requires
 put-digits-requires c κs = simp length-set (omega arith)
@@ -34,15 +34,15 @@ returns c =
     let a = c .before .before .before .before .before .before .before .args in
     let x-is = toZ-ofZ {w = w64} (c .before .before .before .before .before .before .before .fits .x) in
     let d = c .before .before .put-digits in
-    let e : 45 ∷ natural (c .before .before .before .size .result) ≡ decimal (a .x) =
-    rw (c .before .before .before .size .ensures, x-is) (decimal-below (a .x) (simp x-is at (c .before .before .before .before .before .if1 .taken))) in
-    let f : a .at + 1 + length (natural (c .before .before .before .size .result)) ≡ a .at + length (45 ∷ natural (c .before .before .before .size .result)) = omega arith in (
+    let e : 45 ∷ natural (c .before .before .before .nat-abs .result) ≡ decimal (a .x) =
+    rw (c .before .before .before .nat-abs .ensures, x-is) (decimal-below (a .x) (simp x-is at (c .before .before .before .before .before .if1 .taken))) in
+    let f : a .at + 1 + length (natural (c .before .before .before .nat-abs .result)) ≡ a .at + length (45 ∷ natural (c .before .before .before .nat-abs .result)) = omega arith in (
       d .ensures .0 ∙ f ∙ ap (λ (l : List ℕ). a .at + length l) e,
       d .ensures .1 ∙ rw (add-one (a .at)) (ap (λ (l : List ℕ). sets (a .out .now) (a .at) l) e),
     )
 
-size-requires-2 : tie.Need-size-requires-2
-size-requires-2 c κs = search needs
+nat-abs-requires-2 : tie.Need-nat-abs-requires-2
+nat-abs-requires-2 c κs = search needs
 
 put-digits-requires-2 : tie.Need-put-digits-requires-2
 put-digits-requires-2 c κs = search needs
@@ -55,8 +55,8 @@ returns-2 c =
     let a = c .before .before .before .before .before .before .before .args in
     let x-is = toZ-ofZ {w = w64} (c .before .before .before .before .before .before .before .fits .x) in
     let d = c .before .before .put-digits2 in
-    let e : natural (c .before .before .before .size2 .result) ≡ decimal (a .x) =
-    rw (c .before .before .before .size2 .ensures, x-is) (decimal-above (a .x) (simp x-is at (c .before .before .before .before .before .if1 .left))) in
+    let e : natural (c .before .before .before .nat-abs2 .result) ≡ decimal (a .x) =
+    rw (c .before .before .before .nat-abs2 .ensures, x-is) (decimal-above (a .x) (simp x-is at (c .before .before .before .before .before .if1 .left))) in
     (d .ensures .0 ∙ ap (λ (l : List ℕ). a .at + length l) e, d .ensures .1 ∙ ap (λ (l : List ℕ). sets (a .out .now) (a .at) l) e)
 
 pub put-number-spec : {M : Type 1} → statement M
@@ -65,11 +65,11 @@ put-number-spec =
     (tie.spec
     slice-write-out
     add-put-digits
-    size-requires
+    nat-abs-requires
     put-digits-requires
     same-length
     returns
-    size-requires-2
+    nat-abs-requires-2
     put-digits-requires-2
     same-length-2
     returns-2)

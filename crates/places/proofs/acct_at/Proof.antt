@@ -4,7 +4,8 @@ use native.Mathlib.Nat.{mul-le-mul}
 use native.Mathlib.Omega.{arith}
 use mathlib.Core.Path.{refl}
 use Rattle.places.specs.Place.{acct}
-use Rattle.places.specs.ByAccount.{byAccount, recordSize}
+use Rattle.places.specs.ByAccountWords.{recordSize}
+use Rattle.places.specs.ByAccount.{byAccount}
 use borrow.Author.Needs.{needs}
 use Rattle.places.proofs.acct_at.Statement.{statement}
 use Rattle.places.proofs.acct_at.Tie as tie

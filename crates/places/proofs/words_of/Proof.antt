@@ -2,7 +2,7 @@
 use Prim.Native.Nat.{_*_, _≤_}
 use native.Mathlib.Nat.{mul-le-mul}
 use native.Mathlib.Omega.{arith}
-use Rattle.places.specs.ByAccount.{recordSize}
+use Rattle.places.specs.ByAccountWords.{recordSize}
 use borrow.Author.Needs.{needs}
 use Rattle.places.proofs.words_of.Statement.{statement}
 use Rattle.places.proofs.words_of.Tie as tie

@@ -1,7 +1,7 @@
 -- The counts that were read are small, and the line starts within the text.
 use mathlib.Core.Path.{sym, subst}
 use native.Mathlib.Omega.{arith}
-use Rattle.dayfile.specs.Inside.{Modest}
+use Rattle.dayfile.specs.InsideDayfile.{Modest}
 use Rattle.dayfile.proofs.ContentsLaws.{contents-modest}
 use borrow.Author.Needs.{needs}
 use Rattle.plain.proofs.find.Statement.{statement}

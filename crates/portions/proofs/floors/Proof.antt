@@ -5,8 +5,8 @@ use native.Mathlib.Omega.{arith}
 use borrow.Author.Needs.{needs}
 use lib.IntN.{pos}
 use lib.ListN.{length, length-set}
-use Rattle.whole.specs.Below.{total}
-use Rattle.whole.specs.BelowLaws.{total-step, total-most, total-one}
+use Rattle.whole.specs.Counting.{total}
+use Rattle.whole.specs.CountingLaws.{total-step, total-most, total-one}
 use Rattle.whole.specs.Listed.{filled, filled-none, filled-step, filled-all}
 use Rattle.portions.specs.ShareLaws.{floor-most, floors-le}
 use Rattle.portions.specs.Share.{at, before, floorOf, remainderOf, left}

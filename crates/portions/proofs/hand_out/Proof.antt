@@ -9,7 +9,7 @@ use lib.IntN.{ℤ, pos, _+ℤ_}
 use lib.ListN.{length, getD, length-set}
 use mir.Syntax.{w64}
 use mir.Val.{toZ, ofZ}
-use Rattle.whole.specs.Below.{one-if}
+use Rattle.whole.specs.Counting.{one-if}
 use Rattle.whole.specs.Listed.{filled, filled-none, filled-next, filled-step, filled-all}
 use Rattle.whole.specs.Signs.{came}
 use Rattle.whole.specs.Reps.{reads}

@@ -5,14 +5,14 @@ use native.Mathlib.Omega.{arith}
 use mathlib.Core.Bool.{Bool, true, false}
 use mir.Val.{boolByte}
 use borrow.Author.Needs.{needs}
-use Rattle.whole.specs.Below.{count, one-if}
-use Rattle.whole.specs.BelowLaws.{total-step, one-if-most}
+use Rattle.whole.specs.Counting.{howMany, one-if}
+use Rattle.whole.specs.CountingLaws.{total-step, one-if-most}
 use Rattle.portions.specs.Share.{at, before, place}
 use Rattle.portions.proofs.place_of.Statement.{statement}
 use Rattle.portions.proofs.place_of.Tie as tie
 
 abbrev Inv-loop : tie.InvT-loop
-Inv-loop remainders n i own ahead₀ j₀ ahead j = (j ≤ n) × (own ≡ at remainders i) × (ahead ≤ j) × (ahead ≡ count j (λ k. before (at remainders) k i))
+Inv-loop remainders n i own ahead₀ j₀ ahead j = (j ≤ n) × (own ≡ at remainders i) × (ahead ≤ j) × (ahead ≡ howMany j (λ k. before (at remainders) k i))
 
 abbrev μ-loop : tie.MeasureT-loop
 μ-loop remainders n i own ahead₀ j₀ ahead j = n - j

@@ -5,7 +5,7 @@ use native.Mathlib.Omega.{arith}
 use borrow.Author.Needs.{needs}
 use lib.IntN.{pos}
 use lib.ListN.{length}
-use Rattle.whole.specs.Below.{listed}
+use Rattle.whole.specs.Counting.{listed}
 use Rattle.whole.specs.Listed.{listed-same}
 use Rattle.portions.specs.Share.{at, shareOf}
 use Rattle.portions.specs.ShareLaws.{share-none, share-nothing}

@@ -7,7 +7,7 @@ use native.Mathlib.Omega.{arith}
 use borrow.Author.Needs.{needs}
 use lib.IntN.{ℤ, pos, _+ℤ_, natAbs}
 use lib.ListN.{length, getD}
-use Rattle.whole.specs.Below.{total, one-if, listed}
+use Rattle.whole.specs.Counting.{total, one-if, listed}
 use Rattle.whole.specs.Listed.{each-of, length-listed, getD-listed, listed-same, filled, length-filled, getD-filled}
 use Rattle.whole.specs.Reps.{Each}
 use Rattle.portions.specs.Share.{at, comes, floorOf, remainderOf, left, shareOf}

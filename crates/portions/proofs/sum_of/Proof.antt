@@ -4,8 +4,8 @@ use Prim.Native.Nat.{_-_, _≤_, zero-le}
 use native.Mathlib.Omega.{arith}
 use borrow.Author.Needs.{needs}
 use lib.ListN.{length}
-use Rattle.whole.specs.Below.{total}
-use Rattle.whole.specs.BelowLaws.{total-step, total-most}
+use Rattle.whole.specs.Counting.{total}
+use Rattle.whole.specs.CountingLaws.{total-step, total-most}
 use Rattle.portions.specs.Share.{at, before}
 use Rattle.portions.specs.Bounds.{most-weight}
 use Rattle.portions.proofs.sum_of.Statement.{statement}

@@ -1,6 +1,6 @@
 -- `with_yen` meets its contract: a yen more fits, as the largest amount is far from the largest word. Assumes nothing.
 use mathlib.Core.Path.{_≡_, ap}
-use Rattle.whole.specs.Below.{one-if}
+use Rattle.whole.specs.Counting.{one-if}
 use Rattle.whole.specs.Whole.{whole, facts, by}
 use Rattle.portions.proofs.with_yen.Statement.{statement}
 use Rattle.portions.proofs.with_yen.Tie as tie

@@ -17,14 +17,14 @@ use Rattle.soundness.proofs.head_ok.Tie as tie
 abbrev g : tie.Start → View
 g s = get byAccount (s .args .s) (s .args .words .now)
 
-housed : (c : tie.After-small) → c .small .result ≡ within (10 ^ 17) (g (c .before .before) house)
-housed c = let w = c .before .head-word in c .small .ensures ∙ ap (within (10 ^ 17)) (came (w .result) (w .ok) (w .ensures))
+housed : (c : tie.After-within) → c .within .result ≡ within (10 ^ 17) (g (c .before .before) house)
+housed c = let w = c .before .head-word in c .within .ensures ∙ ap (within (10 ^ 17)) (came (w .result) (w .ok) (w .ensures))
 
 head-word-requires : tie.Need-head-word-requires
 head-word-requires c κs = search needs
 
-small-requires : tie.Need-small-requires
-small-requires c κs = search needs
+within-requires : tie.Need-within-requires
+within-requires c κs = search needs
 
 returns : tie.Need-returns
 returns c = simp (fails (housed (c .before)) (c .if1 .taken))
@@ -32,30 +32,30 @@ returns c = simp (fails (housed (c .before)) (c .if1 .taken))
 head-word-requires-2 : tie.Need-head-word-requires-2
 head-word-requires-2 c κs = search needs
 
-add-within : tie.Need-add-within
-add-within c = search needs
+add-between : tie.Need-add-between
+add-between c = search needs
 
-cast-within : tie.Need-cast-within
-cast-within c = search needs
+cast-between : tie.Need-cast-between
+cast-between c = search needs
 
-within-requires : tie.Need-within-requires
-within-requires c κs = search needs
+between-requires : tie.Need-between-requires
+between-requires c κs = search needs
 
 returns-2 : tie.Need-returns-2
 returns-2 c =
     let w = c .before .head-word2 in let d = c .before .before in let s = d .before .before .before in
     simp (holds (housed (d .before)) (d .if1 .left))
-    (c .within .ensures ∙ ap₂ (λ m z. between (pos 0) m z) (toZ-pos w64 (s .args .s .n + 1) (omega arith)) (came (w .result) (w .ok) (w .ensures)))
+    (c .between .ensures ∙ ap₂ (λ m z. between (pos 0) m z) (toZ-pos w64 (s .args .s .n + 1) (omega arith)) (came (w .result) (w .ok) (w .ensures)))
 
 pub head-ok-spec : {M : Type 1} → statement M
 head-ok-spec =
     tie.close
     (tie.spec
     head-word-requires
-    small-requires
+    within-requires
     returns
     head-word-requires-2
-    add-within
-    cast-within
-    within-requires
+    add-between
+    cast-between
+    between-requires
     returns-2)

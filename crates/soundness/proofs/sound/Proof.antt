@@ -10,7 +10,7 @@ use Prim.Native.Nat.{_≤_}
 use borrow.Author.Tests.{eqb-true}
 use Rattle.whole.specs.Tests.{both, fails, holds}
 use Rattle.places.specs.declared.Shape.{Shape}
-use Rattle.places.specs.Place.{get, size}
+use Rattle.places.specs.Place.{get, wordsOf}
 use Rattle.places.specs.ByAccount.{byAccount}
 use Rattle.places.specs.Act.{shapeOk}
 use Rattle.places.specs.ActLaws.{sound-at, not-sized, count-le}
@@ -47,8 +47,8 @@ returns-2 c = let r = c .before .before in sym (read r ∙ rw (fails (c .before 
 places-ok-requires : tie.Need-places-ok-requires
 places-ok-requires c κs =
     let r = c .before .before in let n = s r .n in let p = s r .p in
-    let k = both (ltb 0 n && ltb 0 p) (eqb (length (W r)) (size (s r))) (holds (c .before .shape-ok .ensures) (c .if2 .left)) in
-    record { few = few r .0; few′ = few r .1; sized = eqb-true (length (W r)) (size (s r)) (k .1) }
+    let k = both (ltb 0 n && ltb 0 p) (eqb (length (W r)) (wordsOf (s r))) (holds (c .before .shape-ok .ensures) (c .if2 .left)) in
+    record { few = few r .0; few′ = few r .1; sized = eqb-true (length (W r)) (wordsOf (s r)) (k .1) }
 
 returns-3 : tie.Need-returns-3
 returns-3 c = let d = c .before in let r = d .before .before in sym (read r ∙ rw (holds (d .before .shape-ok .ensures) (d .if2 .left)) (sym (c .places-ok .ensures)))

@@ -9,8 +9,8 @@ use borrow.Author.Tests.{eq-eqb, ne-eqb}
 use lib.IntN.{ℤ, pos}
 use lib.ListN.{length, getD}
 use Rattle.whole.specs.Signs.{back}
-use Rattle.whole.specs.Below.{count, one-if}
-use Rattle.whole.specs.BelowLaws.{total-step}
+use Rattle.whole.specs.Counting.{howMany, one-if}
+use Rattle.whole.specs.CountingLaws.{total-step}
 use Rattle.tally.specs.Tally.{other}
 use Rattle.tally.proofs.altered.Statement.{statement}
 use Rattle.tally.proofs.altered.Tie as tie
@@ -19,7 +19,7 @@ abbrev others : List ℤ → List ℤ → ℕ → Bool
 others a b i = other (getD a i (pos 0)) (getD b i (pos 0))
 
 abbrev Inv-loop : tie.InvT-loop
-Inv-loop a b sum₀ i₀ sum i = (i ≤ length a) × (sum ≤ i) × (sum ≡ count i (others a b))
+Inv-loop a b sum₀ i₀ sum i = (i ≤ length a) × (sum ≤ i) × (sum ≡ howMany i (others a b))
 
 abbrev μ-loop : tie.MeasureT-loop
 μ-loop a b sum₀ i₀ sum i = length a - i

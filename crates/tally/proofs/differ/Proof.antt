@@ -9,11 +9,11 @@ use Rattle.tally.proofs.differ.Statement.{statement}
 use Rattle.tally.proofs.differ.Tie as tie
 
 -- what the test gave
-test : (c : tie.After-within) → let a = c .before .args in c .within .result ≡ between (a .y) (a .y) (a .x)
-test c = c .within .ensures ∙ rw (arg (c .before .fits .x), arg (c .before .fits .y)) refl
+test : (c : tie.After-between) → let a = c .before .args in c .between .result ≡ between (a .y) (a .y) (a .x)
+test c = c .between .ensures ∙ rw (arg (c .before .fits .x), arg (c .before .fits .y)) refl
 
-within-requires : tie.Need-within-requires
-within-requires c κs = search needs
+between-requires : tie.Need-between-requires
+between-requires c κs = search needs
 
 returns : tie.Need-returns
 returns c =
@@ -28,4 +28,4 @@ returns-2 c =
     (rw e refl, omega arith)
 
 pub differ-spec : {M : Type 1} → statement M
-differ-spec = tie.close (tie.spec within-requires returns returns-2)
+differ-spec = tie.close (tie.spec between-requires returns returns-2)

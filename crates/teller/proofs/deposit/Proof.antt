@@ -3,7 +3,7 @@
 use mathlib.Core.Path.{refl}
 use base.Logic.{emp}
 use contract.Monad.{factI}
-use Rattle.rules.specs.Calls.{tellerDeposit}
+use Rattle.rules.specs.AccountCalls.{tellerDeposit}
 use Rattle.rules.proofs.calls.teller_deposit.Symbol as callee
 use Rattle.rules.proofs.calls.teller_deposit.Met as callee-theorem
 use Rattle.teller.proofs.Window.{window-law}

@@ -3,7 +3,7 @@
 use mathlib.Core.Path.{refl}
 use base.Logic.{emp}
 use contract.Monad.{factI}
-use Rattle.rules.specs.Calls.{tellerWithdrawal}
+use Rattle.rules.specs.AccountCalls.{tellerWithdrawal}
 use Rattle.rules.proofs.calls.teller_withdrawal.Symbol as callee
 use Rattle.rules.proofs.calls.teller_withdrawal.Met as callee-theorem
 use Rattle.teller.proofs.Window.{window-law}

@@ -28,8 +28,8 @@ returns c =
     let v-is = toZ-ofZ {w = w64} {z = f .result .value} (record { sfits = c .before .struct-told .given .0 .1 }) in
     count-low (a .low) (a .high) (f .result .next) 0 (f .result .value) (simp v-is at (c .if1 .taken)) ∙ goes
 
-size-requires : tie.Need-size-requires
-size-requires c κs = search needs
+nat-abs-requires : tie.Need-nat-abs-requires
+nat-abs-requires c κs = search needs
 
 returns-2 : tie.Need-returns-2
 unfolding countLine
@@ -39,7 +39,7 @@ returns-2 c =
     let f-is = f .ensures ∙ ap (λ (n : ℕ). fieldAt (a .text .now) n 10) (c .before .before .before .before .before .past-word .ensures) in
     let goes = ap (λ (f : Field). countOf (a .low) (a .high) (f .next) (f .value)) f-is in
     let v-is = toZ-ofZ {w = w64} {z = f .result .value} (record { sfits = c .before .before .before .struct-told .given .0 .1 }) in
-    count-under (a .low) (a .high) (f .result .next) (c .before .size .result) (f .result .value) (simp v-is at (c .before .before .if1 .left)) (c .before .size .ensures ∙ ap natAbs v-is) (c .if2 .taken) ∙ goes
+    count-under (a .low) (a .high) (f .result .next) (c .before .nat-abs .result) (f .result .value) (simp v-is at (c .before .before .if1 .left)) (c .before .nat-abs .ensures ∙ ap natAbs v-is) (c .if2 .taken) ∙ goes
 
 returns-3 : tie.Need-returns-3
 unfolding countLine
@@ -49,7 +49,7 @@ returns-3 c =
     let f-is = f .ensures ∙ ap (λ (n : ℕ). fieldAt (a .text .now) n 10) (c .before .before .before .before .before .before .past-word .ensures) in
     let goes = ap (λ (f : Field). countOf (a .low) (a .high) (f .next) (f .value)) f-is in
     let v-is = toZ-ofZ {w = w64} {z = f .result .value} (record { sfits = c .before .before .before .before .struct-told .given .0 .1 }) in
-    count-over (a .low) (a .high) (f .result .next) (c .before .before .size .result) (f .result .value) (simp v-is at (c .before .before .before .if1 .left)) (c .before .before .size .ensures ∙ ap natAbs v-is) (c .before .if2 .left) (c .if3 .taken) ∙ goes
+    count-over (a .low) (a .high) (f .result .next) (c .before .before .nat-abs .result) (f .result .value) (simp v-is at (c .before .before .before .if1 .left)) (c .before .before .nat-abs .ensures ∙ ap natAbs v-is) (c .before .if2 .left) (c .if3 .taken) ∙ goes
 
 returns-4 : tie.Need-returns-4
 unfolding countLine
@@ -59,7 +59,7 @@ returns-4 c =
     let f-is = f .ensures ∙ ap (λ (n : ℕ). fieldAt (a .text .now) n 10) (c .before .before .before .before .before .before .past-word .ensures) in
     let goes = ap (λ (f : Field). countOf (a .low) (a .high) (f .next) (f .value)) f-is in
     let v-is = toZ-ofZ {w = w64} {z = f .result .value} (record { sfits = c .before .before .before .before .struct-told .given .0 .1 }) in
-    count-good (a .low) (a .high) (f .result .next) (c .before .before .size .result) (f .result .value) (simp v-is at (c .before .before .before .if1 .left)) (c .before .before .size .ensures ∙ ap natAbs v-is) (c .before .if2 .left) (c .if3 .left) ∙ goes
+    count-good (a .low) (a .high) (f .result .next) (c .before .before .nat-abs .result) (f .result .value) (simp v-is at (c .before .before .before .if1 .left)) (c .before .before .nat-abs .ensures ∙ ap natAbs v-is) (c .before .if2 .left) (c .if3 .left) ∙ goes
 
 pub count-line-spec : {M : Type 1} → statement M
 count-line-spec =
@@ -68,7 +68,7 @@ count-line-spec =
     past-word-requires
     field-at-requires
     returns
-    size-requires
+    nat-abs-requires
     returns-2
     returns-3
     returns-4)

@@ -1,7 +1,7 @@
 -- Account by account the base goes on by the width of a record; one law serves every section of lines.
-use Rattle.lines.specs.Lines.{Stand, placeOf}
+use Rattle.lines.specs.Lines.{Stand, lineStartOf}
 use Rattle.lines.proofs.LineLaws.{Onward, onward-none, onward-more, onward-bad, onward-done, line-by}
-use Rattle.dayfile.specs.Sections.{accountAt, accountLine, accountsFrom}
+use Rattle.dayfile.specs.Sections.{accountFigures, accountLine, accountsFrom}
 use Rattle.dayfile.specs.Words.{accountWord, width}
 use Rattle.dayfile.proofs.DayLaws.{account-first, account-next, account-inside}
 use mathlib.Core.Path.{_≡_, refl, _∙_, ap}
@@ -51,9 +51,9 @@ returns c =
     let l = c .before .before .before .before .before .loop in
     let a = c .before .before .before .before .before .before .before .args in
     let k = c .before .before .account-line in
-    let is = line-by (k .ensures .0) (k .ensures .1 ∙ ap (λ (b : ℕ). sets (l .words) b (accountAt (a .text .now) (l .at) .values)) (l .inv .2)) in
+    let is = line-by (k .ensures .0) (k .ensures .1 ∙ ap (λ (b : ℕ). sets (l .words) b (accountFigures (a .text .now) (l .at) .values)) (l .inv .2)) in
     let e = onward-bad (accountLine (a .text .now) (a .p)) (l .inv .0) (omega arith) (record { next = k .result; held = k .last .1 .1 .0 }) is (c .if1 .taken) in
-    (ap placeOf e, ap (λ (s : Stand (List ℤ)). s .held) e)
+    (ap lineStartOf e, ap (λ (s : Stand (List ℤ)). s .held) e)
 
 add-line : tie.Need-add-line Inv-loop μ-loop
 add-line c = omega arith
@@ -75,7 +75,7 @@ loop-again c =
     let l = c .before .before .before .before .before .loop in
     let a = c .before .before .before .before .before .before .before .args in
     let k = c .before .before .account-line in
-    let is = line-by (k .ensures .0) (k .ensures .1 ∙ ap (λ (b : ℕ). sets (l .words) b (accountAt (a .text .now) (l .at) .values)) (l .inv .2)) in
+    let is = line-by (k .ensures .0) (k .ensures .1 ∙ ap (λ (b : ℕ). sets (l .words) b (accountFigures (a .text .now) (l .at) .values)) (l .inv .2)) in
     (onward-more (accountLine (a .text .now) (a .p)) (l .inv .0) (omega arith) (record { next = k .result; held = k .last .1 .1 .0 }) is (c .if1 .left), k .kept .1 .1 .0 ∙ l .inv .1, ap (λ (b : ℕ). b + width (a .p)) (l .inv .2) ∙ account-next (a .p) (l .a), l .inv .3)
 
 same-length-2 : tie.Need-same-length-2 Inv-loop μ-loop
@@ -87,7 +87,7 @@ returns-2 c =
     let l = c .before .loop in
     let a = c .before .before .before .args in
     let e = onward-done (accountLine (a .text .now) (a .p)) (l .inv .0) (omega arith) in
-    (ap placeOf e, ap (λ (s : Stand (List ℤ)). s .held) e)
+    (ap lineStartOf e, ap (λ (s : Stand (List ℤ)). s .held) e)
 
 pub accounts-spec : {M : Type 1} → statement M
 accounts-spec =

@@ -5,7 +5,7 @@ use lib.IntN.{natAbs}
 use mir.Syntax.{w64}
 use mir.Facts.{toZ-ofZ}
 use Rattle.lines.specs.Lines.{Line}
-use Rattle.dayfile.specs.Inside.{Positioned}
+use Rattle.dayfile.specs.InsideDayfile.{Positioned}
 use Rattle.dayfile.specs.Sections.{isOneOf, Stated, stated}
 use Rattle.dayfile.proofs.DayLaws.{one-of-below, mark-inside, position-inside}
 use Rattle.dayfile.proofs.PositionLaws.{position-no-account, position-no-product, position-stated}
@@ -31,11 +31,11 @@ is-one-of-requires c κs = search needs
 is-one-of-requires-2 : tie.Need-is-one-of-requires-2
 is-one-of-requires-2 c κs = search needs
 
-size-requires : tie.Need-size-requires
-size-requires c κs = search needs
+nat-abs-requires : tie.Need-nat-abs-requires
+nat-abs-requires c κs = search needs
 
-size-requires-2 : tie.Need-size-requires-2
-size-requires-2 c κs = search needs
+nat-abs-requires-2 : tie.Need-nat-abs-requires-2
+nat-abs-requires-2 c κs = search needs
 
 state-position-requires : tie.Need-state-position-requires
 state-position-requires c κs =
@@ -47,8 +47,8 @@ state-position-requires c κs =
     let a-is = toZ-ofZ {w = w64} {z = f1 .result .value} (record { sfits = c .before .before .before .before .before .before .before .before .before .before .before .struct-told .given .0 .1 }) in
     let j-is = toZ-ofZ {w = w64} {z = f2 .result .value} (record { sfits = c .before .before .before .before .before .before .before .before .before .before .struct-told2 .given .0 .1 }) in
     let s : Stated = record { words = a .words .now; marks = a .marks .now } in
-    let size-is = c .before .size .ensures ∙ ap natAbs a-is in
-    let size2-is = c .size2 .ensures ∙ ap natAbs j-is in
+    let size-is = c .before .nat-abs .ensures ∙ ap natAbs a-is in
+    let size2-is = c .nat-abs2 .ensures ∙ ap natAbs j-is in
     let ha = one-of-below (a .n) (f1 .result .value) (sym (c .before .before .before .before .before .before .before .before .before .is-one-of .ensures ∙ ap (isOneOf (a .n)) a-is) ∙ c .before .before .before .before .before .before .before .before .if1 .taken) in
     let hj = one-of-below (a .p) (f2 .result .value) (sym (c .before .before .before .before .before .before .before .is-one-of2 .ensures ∙ ap (isOneOf (a .p)) j-is) ∙ c .before .before .before .before .before .before .if2 .taken) in
     let pre = c .before .before .before .before .before .before .before .before .before .before .before .before .before .before .before .before .before .before .pre in (
@@ -74,8 +74,8 @@ returns c =
     let s : Stated = record { words = a .words .now; marks = a .marks .now } in
     let lots-is = toZ-ofZ {w = w64} {z = f3 .result .value} (record { sfits = c .before .before .before .before .before .before .before .before .before .struct-told3 .given .0 .1 }) in
     let book-is = toZ-ofZ {w = w64} {z = f4 .result .value} (record { sfits = c .before .before .before .before .before .before .before .before .struct-told4 .given .0 .1 }) in
-    let size-is = c .before .before .before .before .before .size .ensures ∙ ap natAbs a-is in
-    let size2-is = c .before .before .before .before .size2 .ensures ∙ ap natAbs j-is in
+    let size-is = c .before .before .before .before .before .nat-abs .ensures ∙ ap natAbs a-is in
+    let size2-is = c .before .before .before .before .nat-abs2 .ensures ∙ ap natAbs j-is in
     position-stated (a .text .now) (a .n) (a .p) (a .at) s (f1 .result) (f2 .result) (f3 .result) (f4 .result) (f1 .ensures) (f2 .ensures) (f3 .ensures) (f4 .ensures)
     (sym (c .before .before .before .before .before .before .before .before .before .before .before .before .before .is-one-of .ensures ∙ ap (isOneOf (a .n)) a-is) ∙ c .before .before .before .before .before .before .before .before .before .before .before .before .if1 .taken) (sym (c .before .before .before .before .before .before .before .before .before .before .before .is-one-of2 .ensures ∙ ap (isOneOf (a .p)) j-is) ∙ c .before .before .before .before .before .before .before .before .before .before .if2 .taken)
     (subst (λ (l : Line Stated). Positioned l (c .before .before .before .state-position .result) (c .before .before .before .state-position .last .0) (c .before .before .before .state-position .last .1 .0)) (λ i. stated (a .p) (size-is i) (size2-is i) (lots-is i) (book-is i) (f4 .result .next) s) (c .before .before .before .state-position .ensures))
@@ -114,8 +114,8 @@ position-line-spec =
     field-at-requires-4
     is-one-of-requires
     is-one-of-requires-2
-    size-requires
-    size-requires-2
+    nat-abs-requires
+    nat-abs-requires-2
     state-position-requires
     same-length
     same-length-2

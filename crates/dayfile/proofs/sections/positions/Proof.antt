@@ -4,7 +4,7 @@ use Prim.Native.Nat.{_-_}
 use native.Mathlib.Omega.{arith}
 use borrow.Author.Needs.{needs}
 use lib.ListN.{length}
-use Rattle.lines.specs.Lines.{Stand, placeOf}
+use Rattle.lines.specs.Lines.{Stand, lineStartOf}
 use Rattle.lines.proofs.LineLaws.{Onward, onward-none, onward-more, onward-bad, onward-done, line-by}
 use Rattle.dayfile.specs.Sections.{Stated, positionLine, positionsFrom}
 use Rattle.dayfile.proofs.PositionLaws.{stated-by}
@@ -37,7 +37,7 @@ returns c =
     let k = c .before .before .before .before .position-line in
     let is = line-by (k .ensures .next-is) (stated-by (k .ensures .words-are) (k .ensures .marks-are)) in
     let e = onward-bad (positionLine (a .text .now) (a .n) (a .p)) (l .inv .0) (omega arith) (record { next = k .result; held = record { words = k .last .1 .1 .1 .1 .0; marks = k .last .1 .1 .1 .1 .1 .0 } }) is (c .if1 .taken) in
-    (ap placeOf e, ap (λ (s : Stand Stated). s .held .words) e)
+    (ap lineStartOf e, ap (λ (s : Stand Stated). s .held .words) e)
 
 add-line : tie.Need-add-line Inv-loop μ-loop
 add-line c = omega arith
@@ -68,7 +68,7 @@ returns-2 c =
     let l = c .before .loop in
     let a = c .before .before .before .before .args in
     let e = onward-done (positionLine (a .text .now) (a .n) (a .p)) (l .inv .0) (omega arith) in
-    (ap placeOf e, ap (λ (s : Stand Stated). s .held .words) e)
+    (ap lineStartOf e, ap (λ (s : Stand Stated). s .held .words) e)
 
 pub positions-spec : {M : Type 1} → statement M
 positions-spec =

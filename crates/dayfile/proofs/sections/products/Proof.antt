@@ -7,9 +7,9 @@ use borrow.Author.Needs.{needs}
 use lib.IntN.{ℤ}
 use lib.ListN.{length}
 use lib.Seq.{sets}
-use Rattle.lines.specs.Lines.{Stand, placeOf}
+use Rattle.lines.specs.Lines.{Stand, lineStartOf}
 use Rattle.lines.proofs.LineLaws.{Onward, onward-none, onward-more, onward-bad, onward-done, line-by}
-use Rattle.dayfile.specs.Sections.{productAt, productLine, productsFrom}
+use Rattle.dayfile.specs.Sections.{productFigures, productLine, productsFrom}
 use Rattle.dayfile.specs.Words.{productWord}
 use Rattle.dayfile.proofs.sections.products.Statement.{statement}
 use Rattle.dayfile.proofs.sections.products.Tie as tie
@@ -35,9 +35,9 @@ returns c =
     let l = c .before .before .before .before .before .loop in
     let a = c .before .before .before .before .before .before .before .args in
     let k = c .before .before .product-line in
-    let is = line-by (k .ensures .0) (k .ensures .1 ∙ ap (λ (b : ℕ). sets (l .words) b (productAt (a .text .now) (l .at) .values)) (l .inv .2)) in
+    let is = line-by (k .ensures .0) (k .ensures .1 ∙ ap (λ (b : ℕ). sets (l .words) b (productFigures (a .text .now) (l .at) .values)) (l .inv .2)) in
     let e = onward-bad (productLine (a .text .now)) (l .inv .0) (omega arith) (record { next = k .result; held = k .last .1 .1 .0 }) is (c .if1 .taken) in
-    (ap placeOf e, ap (λ (s : Stand (List ℤ)). s .held) e)
+    (ap lineStartOf e, ap (λ (s : Stand (List ℤ)). s .held) e)
 
 add-line : tie.Need-add-line Inv-loop μ-loop
 add-line c = omega arith
@@ -56,7 +56,7 @@ loop-again c =
     let l = c .before .before .before .before .before .loop in
     let a = c .before .before .before .before .before .before .before .args in
     let k = c .before .before .product-line in
-    let is = line-by (k .ensures .0) (k .ensures .1 ∙ ap (λ (b : ℕ). sets (l .words) b (productAt (a .text .now) (l .at) .values)) (l .inv .2)) in
+    let is = line-by (k .ensures .0) (k .ensures .1 ∙ ap (λ (b : ℕ). sets (l .words) b (productFigures (a .text .now) (l .at) .values)) (l .inv .2)) in
     (onward-more (productLine (a .text .now)) (l .inv .0) (omega arith) (record { next = k .result; held = k .last .1 .1 .0 }) is (c .if1 .left), k .kept .1 .1 .0 ∙ l .inv .1, omega arith)
 
 same-length-2 : tie.Need-same-length-2 Inv-loop μ-loop
@@ -68,7 +68,7 @@ returns-2 c =
     let l = c .before .loop in
     let a = c .before .before .before .args in
     let e = onward-done (productLine (a .text .now)) (l .inv .0) (omega arith) in
-    (ap placeOf e, ap (λ (s : Stand (List ℤ)). s .held) e)
+    (ap lineStartOf e, ap (λ (s : Stand (List ℤ)). s .held) e)
 
 pub products-spec : {M : Type 1} → statement M
 products-spec =

@@ -2,7 +2,7 @@
 use mathlib.Core.Path.{_∙_}
 use mathlib.Core.List.{[], _∷_}
 use Rattle.whole.specs.Signs.{arg}
-use Rattle.rules.specs.Calls.{deposited}
+use Rattle.rules.specs.AccountCalls.{deposited}
 use Rattle.places.specs.Place.{_≔_, cash}
 use Rattle.places.specs.ByAccount.{byAccount}
 use Rattle.places.specs.Act.{finish}

@@ -3,8 +3,8 @@ use mathlib.Core.Path.{_≡_, ap, _∙_}
 use mathlib.Core.Bool.{true}
 use native.Mathlib.Omega.{arith}
 use lib.IntN.{natAbs}
-use Rattle.whole.specs.Number.{isBelow}
-use Rattle.whole.specs.Tests.{fails, holds, is-below}
+use Rattle.whole.specs.Number.{isOneOf}
+use Rattle.whole.specs.Tests.{fails, holds, is-one-of}
 use Rattle.whole.specs.Signs.{arg}
 use Rattle.places.specs.Place.{get}
 use Rattle.places.specs.ByAccount.{byAccount}
@@ -18,17 +18,17 @@ use borrow.Author.Needs.{needs}
 use Rattle.ledger.proofs.requests.guarantee_in.Statement.{statement}
 use Rattle.ledger.proofs.requests.guarantee_in.Tie as tie
 
-named : (c : tie.After-is-below) → c .is-below .result ≡ isBelow (c .before .args .s .n) (c .before .args .a)
-named c = c .is-below .ensures ∙ ap (isBelow (c .before .args .s .n)) (arg (c .before .fits .a))
+named : (c : tie.After-is-one-of) → c .is-one-of .result ≡ isOneOf (c .before .args .s .n) (c .before .args .a)
+named c = c .is-one-of .ensures ∙ ap (isOneOf (c .before .args .s .n)) (arg (c .before .fits .a))
 
-passed : (c : tie.Else1) → isBelow (c .before .before .args .s .n) (c .before .before .args .a) ≡ true
+passed : (c : tie.Else1) → isOneOf (c .before .before .args .s .n) (c .before .before .args .a) ≡ true
 passed c = holds (named (c .before)) (c .if1 .left)
 
-sized : (c : tie.After-size) → c .size .result ≡ natAbs (c .before .before .before .before .args .a)
-sized c = c .size .ensures ∙ ap natAbs (arg (c .before .before .before .before .fits .a))
+sized : (c : tie.After-nat-abs) → c .nat-abs .result ≡ natAbs (c .before .before .before .before .args .a)
+sized c = c .nat-abs .ensures ∙ ap natAbs (arg (c .before .before .before .before .fits .a))
 
-is-below-requires : tie.Need-is-below-requires
-is-below-requires c κs = search needs
+is-one-of-requires : tie.Need-is-one-of-requires
+is-one-of-requires c κs = search needs
 
 refused-requires : tie.Need-refused-requires
 refused-requires c κs = search needs
@@ -39,18 +39,18 @@ returns c =
     refused-as byAccount (s .args .s) W (c .refused .result) 3 _ (c .refused .ensures)
     (no-account byAccount (s .args .s) W (refuse 3) (s .args .a) (guaranteeAct (s .args .guarantee) (s .args .cap)) (fails (named (c .before .before)) (c .before .if1 .taken)))
 
-size-requires : tie.Need-size-requires
-size-requires c κs = search needs
+nat-abs-requires : tie.Need-nat-abs-requires
+nat-abs-requires c κs = search needs
 
 guarantee-at-requires : tie.Need-guarantee-at-requires
-guarantee-at-requires c κs = let s = c .before .before .before .before in (s .pre, omega (arith, sized c, is-below (s .args .s .n) (s .args .a) (passed (c .before .before)) .high))
+guarantee-at-requires c κs = let s = c .before .before .before .before in (s .pre, omega (arith, sized c, is-one-of (s .args .s .n) (s .args .a) (passed (c .before .before)) .high))
 
 same-length : tie.Need-same-length
 same-length c = search needs
 
 returns-2 : tie.Need-returns-2
 returns-2 c =
-    let s = c .before .before .before .before .before .before in let W = s .args .words .now in let k = c .before .before .size .result in
+    let s = c .before .before .before .before .before .before in let W = s .args .words .now in let k = c .before .before .nat-abs .result in
     c .before .guarantee-at .ensures
     ∙ (λ i. finish byAccount (s .args .s) W (guaranteeAct (arg (s .fits .guarantee) i) (arg (s .fits .cap) i) k (accountAt (get byAccount (s .args .s) W) k)))
     ∙ at-account byAccount (s .args .s) W (refuse 3) (s .args .a) (guaranteeAct (s .args .guarantee) (s .args .cap)) k (sized (c .before .before)) (passed (c .before .before .before .before))
@@ -59,10 +59,10 @@ pub guarantee-in-spec : {M : Type 1} → statement M
 guarantee-in-spec =
     tie.close
     (tie.spec
-    is-below-requires
+    is-one-of-requires
     refused-requires
     returns
-    size-requires
+    nat-abs-requires
     guarantee-at-requires
     same-length
     returns-2)

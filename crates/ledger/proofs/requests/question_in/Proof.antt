@@ -4,10 +4,10 @@ use mathlib.Core.Bool.{true}
 use Prim.Native.Nat.{_<_}
 use native.Mathlib.Omega.{arith}
 use lib.IntN.{natAbs}
-use Rattle.whole.specs.Number.{isBelow}
-use Rattle.whole.specs.Tests.{fails, holds, is-below}
+use Rattle.whole.specs.Number.{isOneOf}
+use Rattle.whole.specs.Tests.{fails, holds, is-one-of}
 use Rattle.whole.specs.Signs.{arg}
-use Rattle.rules.specs.Calls.{standingOf}
+use Rattle.rules.specs.AccountCalls.{standingOf}
 use Rattle.places.specs.Place.{get}
 use Rattle.places.specs.ByAccount.{byAccount}
 use Rattle.soundness.specs.Sound.{accountAt}
@@ -16,20 +16,20 @@ use borrow.Author.Needs.{needs}
 use Rattle.ledger.proofs.requests.question_in.Statement.{statement}
 use Rattle.ledger.proofs.requests.question_in.Tie as tie
 
-named : (c : tie.After-is-below) → c .is-below .result ≡ isBelow (c .before .args .s .n) (c .before .args .a)
-named c = c .is-below .ensures ∙ ap (isBelow (c .before .args .s .n)) (arg (c .before .fits .a))
+named : (c : tie.After-is-one-of) → c .is-one-of .result ≡ isOneOf (c .before .args .s .n) (c .before .args .a)
+named c = c .is-one-of .ensures ∙ ap (isOneOf (c .before .args .s .n)) (arg (c .before .fits .a))
 
-passed : (c : tie.Else1) → isBelow (c .before .before .args .s .n) (c .before .before .args .a) ≡ true
+passed : (c : tie.Else1) → isOneOf (c .before .before .args .s .n) (c .before .before .args .a) ≡ true
 passed c = holds (named (c .before)) (c .if1 .left)
 
-sized : (c : tie.After-size) → c .size .result ≡ natAbs (c .before .before .before .args .a)
-sized c = c .size .ensures ∙ ap natAbs (arg (c .before .before .before .fits .a))
+sized : (c : tie.After-nat-abs) → c .nat-abs .result ≡ natAbs (c .before .before .before .args .a)
+sized c = c .nat-abs .ensures ∙ ap natAbs (arg (c .before .before .before .fits .a))
 
-below : (c : tie.After-size) → c .size .result < c .before .before .before .args .s .n
-below c = let s = c .before .before .before in omega (arith, sized c, is-below (s .args .s .n) (s .args .a) (passed (c .before)) .high)
+below : (c : tie.After-nat-abs) → c .nat-abs .result < c .before .before .before .args .s .n
+below c = let s = c .before .before .before in omega (arith, sized c, is-one-of (s .args .s .n) (s .args .a) (passed (c .before)) .high)
 
-is-below-requires : tie.Need-is-below-requires
-is-below-requires c κs = search needs
+is-one-of-requires : tie.Need-is-one-of-requires
+is-one-of-requires c κs = search needs
 
 no-standing-requires : tie.Need-no-standing-requires
 no-standing-requires c κs = search needs
@@ -37,8 +37,8 @@ no-standing-requires c κs = search needs
 returns : tie.Need-returns
 returns c = simp (fails (named (c .before .before)) (c .before .if1 .taken)) (c .no-standing .ensures)
 
-size-requires : tie.Need-size-requires
-size-requires c κs = search needs
+nat-abs-requires : tie.Need-nat-abs-requires
+nat-abs-requires c κs = search needs
 
 account-at-requires : tie.Need-account-at-requires
 account-at-requires c κs = let s = c .before .before .before in (s .pre .sized, below c)
@@ -56,10 +56,10 @@ pub question-in-spec : {M : Type 1} → statement M
 question-in-spec =
     tie.close
     (tie.spec
-    is-below-requires
+    is-one-of-requires
     no-standing-requires
     returns
-    size-requires
+    nat-abs-requires
     account-at-requires
     standing-of-requires
     returns-2)

@@ -26,8 +26,8 @@ module _ (s : tie.Start) where
   abbrev g : View
   g = get byAccount (s .args .s) W
 
-idle : (c : tie.After-within) → c .within .result ≡ is 0 (g (c .before .before .before) phase)
-idle c = let h = c .before .head-word in c .within .ensures ∙ ap (is 0) (came (h .result) (h .ok) (h .ensures))
+idle : (c : tie.After-between) → c .between .result ≡ is 0 (g (c .before .before .before) phase)
+idle c = let h = c .before .head-word in c .between .ensures ∙ ap (is 0) (came (h .result) (h .ok) (h .ensures))
 
 begun : (c : tie.Else1) → is 0 (g (c .before .before .before .before) phase) ≡ true
 begun c = holds (idle (c .before)) (c .if1 .left)
@@ -41,8 +41,8 @@ room c =
 head-word-requires : tie.Need-head-word-requires
 head-word-requires c κs = search needs
 
-within-requires : tie.Need-within-requires
-within-requires c κs = search needs
+between-requires : tie.Need-between-requires
+between-requires c κs = search needs
 
 refused-requires : tie.Need-refused-requires
 refused-requires c κs = search needs
@@ -92,7 +92,7 @@ begin-in-spec =
     tie.close
     (tie.spec
     head-word-requires
-    within-requires
+    between-requires
     refused-requires
     same-length
     returns

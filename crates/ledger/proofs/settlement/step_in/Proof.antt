@@ -31,25 +31,25 @@ module _ (s : tie.Start) where
 few : (s : tie.Start) → s .args .s .n ≤ 64
 few s = s .pre .sized .few
 
-tested : (c : tie.After-within) → let s = c .before .before .before in c .within .result ≡ between (pos 1) (pos (s .args .s .n)) (g s phase)
+tested : (c : tie.After-between) → let s = c .before .before .before in c .between .result ≡ between (pos 1) (pos (s .args .s .n)) (g s phase)
 tested c =
     let s = c .before .before .before in let h = c .before .head-word in
-    c .within .ensures ∙ ap₂ (between (pos 1)) (toZ-pos w64 (s .args .s .n) (omega (arith, few s))) (came (h .result) (h .ok) (h .ensures))
+    c .between .ensures ∙ ap₂ (between (pos 1)) (toZ-pos w64 (s .args .s .n) (omega (arith, few s))) (came (h .result) (h .ok) (h .ensures))
 
 passed : (c : tie.Else1) → let s = c .before .before .before .before in between (pos 1) (pos (s .args .s .n)) (g s phase) ≡ true
 passed c = holds (tested (c .before)) (c .if1 .left)
 
-turned : (c : tie.After-size) → c .size .result ≡ turn (g (c .before .before .before .before .before))
-turned c = let h = c .before .before .before .head-word in c .size .ensures ∙ ap natAbs (came (h .result) (h .ok) (h .ensures))
+turned : (c : tie.After-nat-abs) → c .nat-abs .result ≡ turn (g (c .before .before .before .before .before))
+turned c = let h = c .before .before .before .head-word in c .nat-abs .ensures ∙ ap natAbs (came (h .result) (h .ok) (h .ensures))
 
 head-word-requires : tie.Need-head-word-requires
 head-word-requires c κs = search needs
 
-cast-within : tie.Need-cast-within
-cast-within c = search needs
+cast-between : tie.Need-cast-between
+cast-between c = search needs
 
-within-requires : tie.Need-within-requires
-within-requires c κs = search needs
+between-requires : tie.Need-between-requires
+between-requires c κs = search needs
 
 refused-requires : tie.Need-refused-requires
 refused-requires c κs = search needs
@@ -63,8 +63,8 @@ returns c =
     refused-as byAccount (s .args .s) (W s) (c .refused .result) 7 (stepRule (s .args .s) (g s)) (c .refused .ensures)
     (simp (fails (tested (c .before .before)) (c .before .if1 .taken)))
 
-size-requires : tie.Need-size-requires
-size-requires c κs = search needs
+nat-abs-requires : tie.Need-nat-abs-requires
+nat-abs-requires c κs = search needs
 
 sub-step-at : tie.Need-sub-step-at
 sub-step-at c =
@@ -91,12 +91,12 @@ step-in-spec =
     tie.close
     (tie.spec
     head-word-requires
-    cast-within
-    within-requires
+    cast-between
+    between-requires
     refused-requires
     same-length
     returns
-    size-requires
+    nat-abs-requires
     sub-step-at
     step-at-requires
     same-length-2

@@ -4,8 +4,8 @@ use mathlib.Core.Bool.{true, _&&_}
 use mathlib.Core.List.{List}
 use native.Mathlib.Omega.{arith}
 use lib.IntN.{ℤ, natAbs}
-use Rattle.whole.specs.Number.{isBelow}
-use Rattle.whole.specs.Tests.{both, fails, holds, is-below}
+use Rattle.whole.specs.Number.{isOneOf}
+use Rattle.whole.specs.Tests.{both, fails, holds, is-one-of}
 use Rattle.whole.specs.Signs.{arg}
 use Rattle.places.specs.Place.{View, get}
 use Rattle.places.specs.ByAccount.{byAccount}
@@ -23,28 +23,28 @@ module _ (s : tie.Start) where
   abbrev g : View
   g = get byAccount (s .args .s) W
 
-accounts : (c : tie.After-both-below) → let s = c .before in c .both-below .result ≡ (isBelow (s .args .s .n) (s .args .buyer) && isBelow (s .args .s .n) (s .args .seller))
-accounts c = let s = c .before in c .both-below .ensures ∙ (λ i. isBelow (s .args .s .n) (arg (s .fits .buyer) i) && isBelow (s .args .s .n) (arg (s .fits .seller) i))
+accounts : (c : tie.After-both-below) → let s = c .before in c .both-below .result ≡ (isOneOf (s .args .s .n) (s .args .buyer) && isOneOf (s .args .s .n) (s .args .seller))
+accounts c = let s = c .before in c .both-below .ensures ∙ (λ i. isOneOf (s .args .s .n) (arg (s .fits .buyer) i) && isOneOf (s .args .s .n) (arg (s .fits .seller) i))
 
-named : (c : tie.Else1) → let s = c .before .before in (isBelow (s .args .s .n) (s .args .buyer) && isBelow (s .args .s .n) (s .args .seller)) ≡ true
+named : (c : tie.Else1) → let s = c .before .before in (isOneOf (s .args .s .n) (s .args .buyer) && isOneOf (s .args .s .n) (s .args .seller)) ≡ true
 named c = holds (accounts (c .before)) (c .if1 .left)
 
-product : (c : tie.After-is-below) → let s = c .before .before .before in c .is-below .result ≡ isBelow (s .args .s .p) (s .args .product)
-product c = let s = c .before .before .before in c .is-below .ensures ∙ ap (isBelow (s .args .s .p)) (arg (s .fits .product))
+product : (c : tie.After-is-one-of) → let s = c .before .before .before in c .is-one-of .result ≡ isOneOf (s .args .s .p) (s .args .product)
+product c = let s = c .before .before .before in c .is-one-of .ensures ∙ ap (isOneOf (s .args .s .p)) (arg (s .fits .product))
 
 -- the three figures as numbers
-module _ (c : tie.After-size3) where
+module _ (c : tie.After-nat-abs3) where
   abbrev s : tie.Start
   s = c .before .before .before .before .before .before .before .before
 
-  buyer-is : c .before .before .size .result ≡ natAbs (s .args .buyer)
-  buyer-is = c .before .before .size .ensures ∙ ap natAbs (arg (s .fits .buyer))
+  buyer-is : c .before .before .nat-abs .result ≡ natAbs (s .args .buyer)
+  buyer-is = c .before .before .nat-abs .ensures ∙ ap natAbs (arg (s .fits .buyer))
 
-  seller-is : c .before .size2 .result ≡ natAbs (s .args .seller)
-  seller-is = c .before .size2 .ensures ∙ ap natAbs (arg (s .fits .seller))
+  seller-is : c .before .nat-abs2 .result ≡ natAbs (s .args .seller)
+  seller-is = c .before .nat-abs2 .ensures ∙ ap natAbs (arg (s .fits .seller))
 
-  product-is : c .size3 .result ≡ natAbs (s .args .product)
-  product-is = c .size3 .ensures ∙ ap natAbs (arg (s .fits .product))
+  product-is : c .nat-abs3 .result ≡ natAbs (s .args .product)
+  product-is = c .nat-abs3 .ensures ∙ ap natAbs (arg (s .fits .product))
 
 both-below-requires : tie.Need-both-below-requires
 both-below-requires c κs = search needs
@@ -58,8 +58,8 @@ returns c =
     refused-as byAccount (s .args .s) (W s) (c .refused .result) 3 (tradeRule (s .args .buyer) (s .args .seller) (s .args .product) (s .args .lots) (s .args .price) (s .args .s) (g s)) (c .refused .ensures)
     (simp (fails (accounts (c .before .before)) (c .before .if1 .taken)))
 
-is-below-requires : tie.Need-is-below-requires
-is-below-requires c κs = search needs
+is-one-of-requires : tie.Need-is-one-of-requires
+is-one-of-requires c κs = search needs
 
 refused-requires-2 : tie.Need-refused-requires-2
 refused-requires-2 c κs = search needs
@@ -70,21 +70,21 @@ returns-2 c =
     refused-as byAccount (s .args .s) (W s) (c .refused2 .result) 4 (tradeRule (s .args .buyer) (s .args .seller) (s .args .product) (s .args .lots) (s .args .price) (s .args .s) (g s)) (c .refused2 .ensures)
     (simp (named (d .before), fails (product d) (c .before .if2 .taken)))
 
-size-requires : tie.Need-size-requires
-size-requires c κs = search needs
+nat-abs-requires : tie.Need-nat-abs-requires
+nat-abs-requires c κs = search needs
 
-size-requires-2 : tie.Need-size-requires-2
-size-requires-2 c κs = search needs
+nat-abs-requires-2 : tie.Need-nat-abs-requires-2
+nat-abs-requires-2 c κs = search needs
 
-size-requires-3 : tie.Need-size-requires-3
-size-requires-3 c κs = search needs
+nat-abs-requires-3 : tie.Need-nat-abs-requires-3
+nat-abs-requires-3 c κs = search needs
 
 trade-between-requires : tie.Need-trade-between-requires
 trade-between-requires c κs =
     let two = c .before .before .before .before in let d = two .before in let t = s c in
-    let h = both (isBelow (t .args .s .n) (t .args .buyer)) (isBelow (t .args .s .n) (t .args .seller)) (named (d .before)) in
-    let b = is-below (t .args .s .n) (t .args .buyer) (h .0) .high in let e = is-below (t .args .s .n) (t .args .seller) (h .1) .high in
-    let p = is-below (t .args .s .p) (t .args .product) (holds (product d) (two .if2 .left)) .high in
+    let h = both (isOneOf (t .args .s .n) (t .args .buyer)) (isOneOf (t .args .s .n) (t .args .seller)) (named (d .before)) in
+    let b = is-one-of (t .args .s .n) (t .args .buyer) (h .0) .high in let e = is-one-of (t .args .s .n) (t .args .seller) (h .1) .high in
+    let p = is-one-of (t .args .s .p) (t .args .product) (holds (product d) (two .if2 .left)) .high in
     (t .pre, (omega (arith, buyer-is c), omega (arith, seller-is c), omega (arith, product-is c)))
 
 same-length : tie.Need-same-length
@@ -104,12 +104,12 @@ trade-in-spec =
     both-below-requires
     refused-requires
     returns
-    is-below-requires
+    is-one-of-requires
     refused-requires-2
     returns-2
-    size-requires
-    size-requires-2
-    size-requires-3
+    nat-abs-requires
+    nat-abs-requires-2
+    nat-abs-requires-3
     trade-between-requires
     same-length
     returns-3)

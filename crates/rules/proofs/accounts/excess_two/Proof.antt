@@ -1,6 +1,6 @@
 -- `rules::accounts::excess_two` meets its contract: a choice by the kind; the sums fit, as cash, dues and margin are bounded. Assumes nothing.
 use mathlib.Core.Path.{sym, _∙_}
-use Rattle.whole.specs.Number.{below}
+use Rattle.whole.specs.Number.{takesAway}
 use Rattle.whole.specs.Whole.{whole, known, facts, by, told}
 use Rattle.rules.specs.Account.{excessTwo}
 use Rattle.rules.specs.AccountLaws.{AccountIn, account-facts}
@@ -32,20 +32,20 @@ add-result-2 c = let i = sound (c .before .before .before .before .before .befor
 sub-result-2 : tie.Need-sub-result-2
 sub-result-2 c = let i = sound (c .before .before .before .before .before .before) in by (search whole depth 20) (omega facts)
 
-below-requires : tie.Need-below-requires
-below-requires c κs = let i = sound (c .before .before .before .before .before .before) in by (search whole depth 20) (omega facts)
+takes-away-requires : tie.Need-takes-away-requires
+takes-away-requires c κs = let i = sound (c .before .before .before .before .before .before) in by (search whole depth 20) (omega facts)
 
 sub-result-3 : tie.Need-sub-result-3
-unfolding below
+unfolding takesAway
 sub-result-3 c =
     let i = sound (c .before .before .before .before .before .before .before) in
-    by (search whole depth 20) (omega (facts, told (c .below .ensures) (search known depth 20) (omega facts)))
+    by (search whole depth 20) (omega (facts, told (c .takes-away .ensures) (search known depth 20) (omega facts)))
 
 returns-2 : tie.Need-returns-2
-unfolding excessTwo below
+unfolding excessTwo takesAway
 returns-2 c =
     let i = sound (c .before .before .before .before .before .before .before) in
-    rw (sym (c .before .before .is-broker .ensures) ∙ c .before .if1 .left) (by (search whole depth 20) (omega (facts, told (c .below .ensures) (search known depth 20) (omega facts))))
+    rw (sym (c .before .before .is-broker .ensures) ∙ c .before .if1 .left) (by (search whole depth 20) (omega (facts, told (c .takes-away .ensures) (search known depth 20) (omega facts))))
 
 pub excess-two-spec : {M : Type 1} → statement M
 excess-two-spec =
@@ -57,6 +57,6 @@ excess-two-spec =
     returns
     add-result-2
     sub-result-2
-    below-requires
+    takes-away-requires
     sub-result-3
     returns-2)

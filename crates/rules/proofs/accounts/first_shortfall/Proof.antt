@@ -23,18 +23,18 @@ required-of-requires c κs = search needs
 deposit-of-requires : tie.Need-deposit-of-requires
 deposit-of-requires c κs = search needs
 
-sub-upper : tie.Need-sub-upper
-sub-upper c =
+sub-max : tie.Need-sub-max
+sub-max c =
     let s = c .before .before in let d = deposit-in (s .args .account) (s .pre) in let r = required-in (s .args .account) (s .pre) in
     by (search whole depth 20) (omega (facts, told (c .before .required-of .ensures) (search known depth 20) (omega facts), told (c .deposit-of .ensures) (search known depth 20) (omega facts)))
 
-upper-requires : tie.Need-upper-requires
-upper-requires c κs = search needs
+max-requires : tie.Need-max-requires
+max-requires c κs = search needs
 
 returns : tie.Need-returns
 unfolding firstShortfall
-returns c = came (c .upper .result) (c .upper .ok) (c .upper .ensures ∙ ap (maxZ (pos 0)) (missing (c .before)))
+returns c = came (c .max .result) (c .max .ok) (c .max .ensures ∙ ap (maxZ (pos 0)) (missing (c .before)))
 
 pub first-shortfall-spec : {M : Type 1} → statement M
 first-shortfall-spec =
-    tie.close (tie.spec required-of-requires deposit-of-requires sub-upper upper-requires returns)
+    tie.close (tie.spec required-of-requires deposit-of-requires sub-max max-requires returns)

@@ -4,17 +4,17 @@ use Rattle.whole.specs.Whole.{whole, facts, by}
 use Rattle.rules.proofs.accounts.gross_within.Statement.{statement}
 use Rattle.rules.proofs.accounts.gross_within.Tie as tie
 
-size-requires : tie.Need-size-requires
-size-requires c κs = search needs
+nat-abs-requires : tie.Need-nat-abs-requires
+nat-abs-requires c κs = search needs
 
-size-requires-2 : tie.Need-size-requires-2
-size-requires-2 c κs = search needs
+nat-abs-requires-2 : tie.Need-nat-abs-requires-2
+nat-abs-requires-2 c κs = search needs
 
-size-requires-3 : tie.Need-size-requires-3
-size-requires-3 c κs = search needs
+nat-abs-requires-3 : tie.Need-nat-abs-requires-3
+nat-abs-requires-3 c κs = search needs
 
-size-requires-4 : tie.Need-size-requires-4
-size-requires-4 c κs = search needs
+nat-abs-requires-4 : tie.Need-nat-abs-requires-4
+nat-abs-requires-4 c κs = search needs
 
 returns : tie.Need-returns
 returns c = by (search whole depth 20) (omega facts)
@@ -44,10 +44,10 @@ pub gross-within-spec : {M : Type 1} → statement M
 gross-within-spec =
     tie.close
     (tie.spec
-    size-requires
-    size-requires-2
-    size-requires-3
-    size-requires-4
+    nat-abs-requires
+    nat-abs-requires-2
+    nat-abs-requires-3
+    nat-abs-requires-4
     returns
     returns-2
     returns-3

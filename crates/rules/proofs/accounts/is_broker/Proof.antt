@@ -6,11 +6,11 @@ use borrow.Author.Needs.{needs}
 use Rattle.rules.proofs.accounts.is_broker.Statement.{statement}
 use Rattle.rules.proofs.accounts.is_broker.Tie as tie
 
-within-requires : tie.Need-within-requires
-within-requires c κs = search needs
+between-requires : tie.Need-between-requires
+between-requires c κs = search needs
 
 returns : tie.Need-returns
-returns c = c .within .ensures ∙ ap (is 0) (back (c .before .before .args .account .kind) (c .before .struct-told .given .0 .1))
+returns c = c .between .ensures ∙ ap (is 0) (back (c .before .before .args .account .kind) (c .before .struct-told .given .0 .1))
 
 pub is-broker-spec : {M : Type 1} → statement M
-is-broker-spec = tie.close (tie.spec within-requires returns)
+is-broker-spec = tie.close (tie.spec between-requires returns)

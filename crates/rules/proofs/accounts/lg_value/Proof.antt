@@ -22,18 +22,18 @@ valued s = let i = sound s in by (search whole depth 20) (omega facts)
 cap-is : (s : tie.Start) → toZ w64 (ofZ w64 (s .args .account .cap)) ≡ s .args .account .cap
 cap-is s = let i = sound s in by (search whole depth 20) (omega facts)
 
-mul-lower : tie.Need-mul-lower
-mul-lower c = let i = sound (c .before .before) in by (search whole depth 20) (omega facts)
+mul-min : tie.Need-mul-min
+mul-min c = let i = sound (c .before .before) in by (search whole depth 20) (omega facts)
 
-div-lower : tie.Need-div-lower
-div-lower c = let i = sound (c .before .before) in (omega facts, by (search whole depth 20) (omega facts))
+div-min : tie.Need-div-min
+div-min c = let i = sound (c .before .before) in (omega facts, by (search whole depth 20) (omega facts))
 
-lower-requires : tie.Need-lower-requires
-lower-requires c κs = search needs
+min-requires : tie.Need-min-requires
+min-requires c κs = search needs
 
 returns : tie.Need-returns
 unfolding lgValue
-returns c = let s = c .before .before .before in came (c .lower .result) (c .lower .ok) (c .lower .ensures ∙ ap₂ minZ (valued s) (cap-is s))
+returns c = let s = c .before .before .before in came (c .min .result) (c .min .ok) (c .min .ensures ∙ ap₂ minZ (valued s) (cap-is s))
 
 pub lg-value-spec : {M : Type 1} → statement M
-lg-value-spec = tie.close (tie.spec mul-lower div-lower lower-requires returns)
+lg-value-spec = tie.close (tie.spec mul-min div-min min-requires returns)

@@ -21,20 +21,20 @@ excess-one-requires c κs = search needs
 excess-two-requires : tie.Need-excess-two-requires
 excess-two-requires c κs = search needs
 
-lower-requires : tie.Need-lower-requires
-lower-requires c κs = search needs
+min-requires : tie.Need-min-requires
+min-requires c κs = search needs
 
-lower-requires-2 : tie.Need-lower-requires-2
-lower-requires-2 c κs = search needs
+min-requires-2 : tie.Need-min-requires-2
+min-requires-2 c κs = search needs
 
-upper-requires : tie.Need-upper-requires
-upper-requires c κs = search needs
+max-requires : tie.Need-max-requires
+max-requires c κs = search needs
 
 returns : tie.Need-returns
 unfolding limitOf
 returns c =
-    let l = c .before .lower2 in let m = c .before .before .lower in let y = c .before .before .before .excess-two in let x = c .before .before .before .before .excess-one in
-    came (c .upper .result) (c .upper .ok) (c .upper .ensures ∙ ap (maxZ (pos 0))
+    let l = c .before .min2 in let m = c .before .before .min in let y = c .before .before .before .excess-two in let x = c .before .before .before .before .excess-one in
+    came (c .max .result) (c .max .ok) (c .max .ensures ∙ ap (maxZ (pos 0))
     (came (l .result) (l .ok) (l .ensures ∙ ap₂ minZ (cash-is (c .before .before .before .before .before .before))
     (came (m .result) (m .ok) (m .ensures ∙ ap₂ minZ (came (x .result) (x .ok) (x .ensures)) (came (y .result) (y .ok) (y .ensures)))))))
 
@@ -44,7 +44,7 @@ limit-of-spec =
     (tie.spec
     excess-one-requires
     excess-two-requires
-    lower-requires
-    lower-requires-2
-    upper-requires
+    min-requires
+    min-requires-2
+    max-requires
     returns)

@@ -6,11 +6,11 @@ use borrow.Author.Needs.{needs}
 use Rattle.rules.proofs.calls.amount_ok.Statement.{statement}
 use Rattle.rules.proofs.calls.amount_ok.Tie as tie
 
-within-requires : tie.Need-within-requires
-within-requires c κs = search needs
+between-requires : tie.Need-between-requires
+between-requires c κs = search needs
 
 returns : tie.Need-returns
-returns c = c .within .ensures ∙ ap amountOk (arg (c .before .fits .x))
+returns c = c .between .ensures ∙ ap amountOk (arg (c .before .fits .x))
 
 pub amount-ok-spec : {M : Type 1} → statement M
-amount-ok-spec = tie.close (tie.spec within-requires returns)
+amount-ok-spec = tie.close (tie.spec between-requires returns)

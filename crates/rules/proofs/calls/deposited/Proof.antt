@@ -11,7 +11,7 @@ use Rattle.whole.specs.Whole.{whole, facts, by}
 use Rattle.rules.specs.Sizes.{amountOk, mostAmount, mostGross}
 use Rattle.rules.specs.Account.{grossOf}
 use Rattle.rules.specs.AccountLaws.{account-facts}
-use Rattle.rules.specs.Calls.{withCash, taken, deposited}
+use Rattle.rules.specs.AccountCalls.{withCash, taken, deposited}
 use borrow.Author.Needs.{needs}
 use Rattle.rules.proofs.calls.deposited.Statement.{statement}
 use Rattle.rules.proofs.calls.deposited.Tie as tie

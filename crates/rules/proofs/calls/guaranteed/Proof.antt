@@ -6,8 +6,8 @@ use mir.Val.{toZ, ofZ}
 use Rattle.whole.specs.Signs.{arg, came}
 use Rattle.whole.specs.Tests.{fails, holds}
 use Rattle.rules.specs.Account.{isBroker, lgValue, accountOk}
-use Rattle.rules.specs.Calls.{guaranteeOk, withGuarantee, taken, guaranteed}
-use Rattle.rules.specs.CallsLaws.{with-guarantee-sound}
+use Rattle.rules.specs.AccountCalls.{guaranteeOk, withGuarantee, taken, guaranteed}
+use Rattle.rules.specs.AccountCallsLaws.{with-guarantee-sound}
 use borrow.Author.Needs.{needs}
 use Rattle.rules.proofs.calls.guaranteed.Statement.{statement}
 use Rattle.rules.proofs.calls.guaranteed.Tie as tie

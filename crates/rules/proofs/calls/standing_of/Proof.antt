@@ -1,6 +1,6 @@
 -- `rules::calls::standing_of` meets its contract: the three figures, each by its own function. Assumes nothing.
 use Rattle.whole.specs.Signs.{came}
-use Rattle.rules.specs.Calls.{standingOf}
+use Rattle.rules.specs.AccountCalls.{standingOf}
 use borrow.Author.Needs.{needs}
 use Rattle.rules.proofs.calls.standing_of.Statement.{statement}
 use Rattle.rules.proofs.calls.standing_of.Tie as tie

@@ -4,7 +4,7 @@ use mathlib.Core.Bool.{true}
 use Rattle.whole.specs.Signs.{arg}
 use Rattle.whole.specs.Tests.{fails, holds}
 use Rattle.rules.specs.Account.{accountOk}
-use Rattle.rules.specs.Calls.{deposited, tellerDeposit}
+use Rattle.rules.specs.AccountCalls.{deposited, tellerDeposit}
 use borrow.Author.Needs.{needs}
 use Rattle.rules.proofs.calls.teller_deposit.Statement.{statement}
 use Rattle.rules.proofs.calls.teller_deposit.Tie as tie

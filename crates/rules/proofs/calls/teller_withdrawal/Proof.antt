@@ -4,7 +4,7 @@ use mathlib.Core.Bool.{true}
 use Rattle.whole.specs.Signs.{arg}
 use Rattle.whole.specs.Tests.{fails, holds}
 use Rattle.rules.specs.Account.{accountOk}
-use Rattle.rules.specs.Calls.{withdrawn, tellerWithdrawal}
+use Rattle.rules.specs.AccountCalls.{withdrawn, tellerWithdrawal}
 use borrow.Author.Needs.{needs}
 use Rattle.rules.proofs.calls.teller_withdrawal.Statement.{statement}
 use Rattle.rules.proofs.calls.teller_withdrawal.Tie as tie

@@ -12,7 +12,7 @@ use Rattle.whole.specs.Whole.{whole, facts, by}
 use Rattle.rules.specs.Sizes.{amountOk, mostAmount}
 use Rattle.rules.specs.Account.{limitOf}
 use Rattle.rules.specs.AccountLaws.{account-facts}
-use Rattle.rules.specs.Calls.{withCash, refusedAt, taken, withdrawn}
+use Rattle.rules.specs.AccountCalls.{withCash, refusedAt, taken, withdrawn}
 use borrow.Author.Needs.{needs}
 use Rattle.rules.proofs.calls.withdrawn.Statement.{statement}
 use Rattle.rules.proofs.calls.withdrawn.Tie as tie

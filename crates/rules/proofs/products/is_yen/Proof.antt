@@ -6,11 +6,11 @@ use borrow.Author.Needs.{needs}
 use Rattle.rules.proofs.products.is_yen.Statement.{statement}
 use Rattle.rules.proofs.products.is_yen.Tie as tie
 
-within-requires : tie.Need-within-requires
-within-requires c κs = search needs
+between-requires : tie.Need-between-requires
+between-requires c κs = search needs
 
 returns : tie.Need-returns
-returns c = c .within .ensures ∙ ap (is 0) (arg (c .before .fits .kind))
+returns c = c .between .ensures ∙ ap (is 0) (arg (c .before .fits .kind))
 
 pub is-yen-spec : {M : Type 1} → statement M
-is-yen-spec = tie.close (tie.spec within-requires returns)
+is-yen-spec = tie.close (tie.spec between-requires returns)

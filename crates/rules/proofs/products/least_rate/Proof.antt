@@ -6,11 +6,11 @@ use borrow.Author.Needs.{needs}
 use Rattle.rules.proofs.products.least_rate.Statement.{statement}
 use Rattle.rules.proofs.products.least_rate.Tie as tie
 
-test : (c : tie.After-within) → is 0 (c .before .args .mark) ≡ c .within .result
-test c = sym (c .within .ensures ∙ ap (is 0) (arg (c .before .fits .mark)))
+test : (c : tie.After-between) → is 0 (c .before .args .mark) ≡ c .between .result
+test c = sym (c .between .ensures ∙ ap (is 0) (arg (c .before .fits .mark)))
 
-within-requires : tie.Need-within-requires
-within-requires c κs = search needs
+between-requires : tie.Need-between-requires
+between-requires c κs = search needs
 
 returns : tie.Need-returns
 returns c = rw (test (c .before) ∙ c .if1 .taken)
@@ -19,4 +19,4 @@ returns-2 : tie.Need-returns-2
 returns-2 c = rw (test (c .before) ∙ c .if1 .left)
 
 pub least-rate-spec : {M : Type 1} → statement M
-least-rate-spec = tie.close (tie.spec within-requires returns returns-2)
+least-rate-spec = tie.close (tie.spec between-requires returns returns-2)

@@ -10,20 +10,20 @@ use borrow.Author.Needs.{needs}
 use Rattle.rules.proofs.products.margin_of.Statement.{statement}
 use Rattle.rules.proofs.products.margin_of.Tie as tie
 
-lots-and-price : (c : tie.After-up) → (c .before .size .result ≤ 1000000) × (c .up .result ≤ 5000000)
+lots-and-price : (c : tie.After-up) → (c .before .nat-abs .result ≤ 1000000) × (c .up .result ≤ 5000000)
 lots-and-price c = let a = c .before .before in omega (facts, word (a .args .y) (a .fits .y))
 
 rate-most : (c : tie.After-up2) → c .up2 .result ≤ 10000
 rate-most c = let a = c .before .before .before in omega (facts, word (a .args .rate) (a .fits .rate))
 
-bound : (c : tie.After-up2) → c .before .before .size .result * c .before .up .result * c .up2 .result ≤ 50000000000000000
+bound : (c : tie.After-up2) → c .before .before .nat-abs .result * c .before .up .result * c .up2 .result ≤ 50000000000000000
 bound c = let s = lots-and-price (c .before) in mul-le-mul (mul-le-mul (s .0) (s .1)) (rate-most c)
 
-exact : (c : tie.After-up2) → c .before .before .size .result * c .before .up .result * c .up2 .result ≡ natAbs (c .before .before .before .args .lots) * natAbs (c .before .before .before .args .y) * natAbs (c .before .before .before .args .rate)
+exact : (c : tie.After-up2) → c .before .before .nat-abs .result * c .before .up .result * c .up2 .result ≡ natAbs (c .before .before .before .args .lots) * natAbs (c .before .before .before .args .y) * natAbs (c .before .before .before .args .rate)
 exact c = ap₂ _*_ (ap₂ _*_ (omega facts) (omega facts)) (omega facts)
 
-size-requires : tie.Need-size-requires
-size-requires c κs = search needs
+nat-abs-requires : tie.Need-nat-abs-requires
+nat-abs-requires c κs = search needs
 
 up-requires : tie.Need-up-requires
 up-requires c κs = by (search whole depth 20) (omega facts)
@@ -50,7 +50,7 @@ pub margin-of-spec : {M : Type 1} → statement M
 margin-of-spec =
     tie.close
     (tie.spec
-    size-requires
+    nat-abs-requires
     up-requires
     mul-unrounded
     up-requires-2

@@ -16,13 +16,13 @@ is-yen-requires c κs = search needs
 returns : tie.Need-returns
 returns c = rw (test (c .before) ∙ c .if1 .taken)
 
-size-requires : tie.Need-size-requires
-size-requires c κs = search needs
+nat-abs-requires : tie.Need-nat-abs-requires
+nat-abs-requires c κs = search needs
 
 returns-2 : tie.Need-returns-2
 returns-2 c =
     let s = c .before .before .before .before in let p = s .before .args .product in
-    rw (test (c .before .before) ∙ c .before .if1 .left) (c .size .ensures ∙ ap natAbs (back (p .principal) (c .before .before .before .before .struct-told .given .1 .1 .1 .0 .1)))
+    rw (test (c .before .before) ∙ c .before .if1 .left) (c .nat-abs .ensures ∙ ap natAbs (back (p .principal) (c .before .before .before .before .struct-told .given .1 .1 .1 .0 .1)))
 
 pub yen-product-spec : {M : Type 1} → statement M
-yen-product-spec = tie.close (tie.spec is-yen-requires returns size-requires returns-2)
+yen-product-spec = tie.close (tie.spec is-yen-requires returns nat-abs-requires returns-2)

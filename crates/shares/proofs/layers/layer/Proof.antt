@@ -6,8 +6,8 @@ use native.Mathlib.Omega.{arith}
 use lib.IntN.{ℤ, pos}
 use lib.ListN.{length}
 use Rattle.whole.specs.Reps.{Each}
-use Rattle.whole.specs.Below.{total, listed}
-use Rattle.whole.specs.BelowLaws.{total-same}
+use Rattle.whole.specs.Counting.{total, listed}
+use Rattle.whole.specs.CountingLaws.{total-same}
 use Rattle.whole.specs.Listed.{length-listed, getD-listed, listed-same, listed-most}
 use Rattle.portions.specs.Share.{at, shareOf, shares}
 use Rattle.portions.specs.ShareLaws.{share-same}

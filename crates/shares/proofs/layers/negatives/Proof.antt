@@ -6,8 +6,8 @@ use borrow.Author.Needs.{needs}
 use lib.IntN.{pos}
 use lib.ListN.{length, getD}
 use Rattle.whole.specs.Signs.{back}
-use Rattle.whole.specs.Below.{total}
-use Rattle.whole.specs.BelowLaws.{total-step, total-most}
+use Rattle.whole.specs.Counting.{total}
+use Rattle.whole.specs.CountingLaws.{total-step, total-most}
 use Rattle.shares.specs.Loss.{negative, most-figure}
 use Rattle.shares.specs.LossLaws.{negative-most}
 use Rattle.shares.proofs.layers.negatives.Statement.{statement}

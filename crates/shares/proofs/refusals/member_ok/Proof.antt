@@ -10,18 +10,18 @@ use Rattle.shares.specs.Loss.{most-figure}
 use Rattle.shares.proofs.refusals.member_ok.Statement.{statement}
 use Rattle.shares.proofs.refusals.member_ok.Tie as tie
 
-within-requires : tie.Need-within-requires
-within-requires c κs = search needs
+between-requires : tie.Need-between-requires
+between-requires c κs = search needs
 
--- what `within` gave of the deposit, of the difference and of the mark
-deposit : (c : tie.After-within) → c .within .result ≡ between (pos 0) (pos most-figure) (c .before .args .deposit)
-deposit c = c .within .ensures ∙ rw (arg (c .before .fits .deposit)) refl
+-- what `between` gave of the deposit, of the difference and of the mark
+deposit : (c : tie.After-between) → c .between .result ≡ between (pos 0) (pos most-figure) (c .before .args .deposit)
+deposit c = c .between .ensures ∙ rw (arg (c .before .fits .deposit)) refl
 
-difference : (c : tie.After-within2) → c .within2 .result ≡ between (negℤ (pos most-figure)) (pos most-figure) (c .before .before .before .args .difference)
-difference c = c .within2 .ensures ∙ rw (arg (c .before .before .before .fits .difference)) refl
+difference : (c : tie.After-between2) → c .between2 .result ≡ between (negℤ (pos most-figure)) (pos most-figure) (c .before .before .before .args .difference)
+difference c = c .between2 .ensures ∙ rw (arg (c .before .before .before .fits .difference)) refl
 
-mark : (c : tie.After-within3) → c .within3 .result ≡ between (pos 0) (pos 1) (c .before .before .before .before .before .args .mark)
-mark c = c .within3 .ensures ∙ rw (arg (c .before .before .before .before .before .fits .mark)) refl
+mark : (c : tie.After-between3) → c .between3 .result ≡ between (pos 0) (pos 1) (c .before .before .before .before .before .args .mark)
+mark c = c .between3 .ensures ∙ rw (arg (c .before .before .before .before .before .fits .mark)) refl
 
 returns : tie.Need-returns
 returns c = rw (fails (deposit (c .before)) (c .if1 .taken)) refl
@@ -30,14 +30,14 @@ returns c = rw (fails (deposit (c .before)) (c .if1 .taken)) refl
 in-range : (c : tie.Else1) → between (pos 0) (pos most-figure) (c .before .before .args .deposit) ≡ true
 in-range c = holds (deposit (c .before)) (c .if1 .left)
 
-within-requires-2 : tie.Need-within-requires-2
-within-requires-2 c κs = search needs
+between-requires-2 : tie.Need-between-requires-2
+between-requires-2 c κs = search needs
 
 returns-2 : tie.Need-returns-2
 returns-2 c = rw (in-range (c .before .before), fails (difference (c .before)) (c .if2 .taken)) refl
 
-within-requires-3 : tie.Need-within-requires-3
-within-requires-3 c κs = search needs
+between-requires-3 : tie.Need-between-requires-3
+between-requires-3 c κs = search needs
 
 returns-3 : tie.Need-returns-3
 returns-3 c =
@@ -47,4 +47,4 @@ returns-3 c =
 pub member-ok-spec : {M : Type 1} → statement M
 member-ok-spec =
     tie.close
-    (tie.spec within-requires returns within-requires-2 returns-2 within-requires-3 returns-3)
+    (tie.spec between-requires returns between-requires-2 returns-2 between-requires-3 returns-3)

@@ -8,8 +8,8 @@ use borrow.Author.Needs.{needs}
 use lib.IntN.{ℤ, pos}
 use lib.ListN.{length, getD}
 use Rattle.whole.specs.Signs.{back}
-use Rattle.whole.specs.Below.{all}
-use Rattle.whole.specs.BelowLaws.{all-more, all-fails}
+use Rattle.whole.specs.Counting.{all}
+use Rattle.whole.specs.CountingLaws.{all-more, all-fails}
 use Rattle.whole.specs.Tests.{fails, holds}
 use Rattle.shares.specs.Loss.{memberOk}
 use Rattle.shares.proofs.refusals.members_ok.Statement.{statement}

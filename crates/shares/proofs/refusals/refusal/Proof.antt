@@ -7,30 +7,30 @@ use borrow.Author.Needs.{needs}
 use Rattle.whole.specs.Number.{between}
 use Rattle.whole.specs.Signs.{arg}
 use Rattle.whole.specs.Tests.{fails, holds}
-use Rattle.shares.specs.Loss.{most-loss, lengthsOk, refusal}
+use Rattle.shares.specs.Loss.{most-loss, oneLength, refusal}
 use Rattle.shares.specs.Accepted.{lengths-say}
 use Rattle.shares.proofs.refusals.refusal.Statement.{statement}
 use Rattle.shares.proofs.refusals.refusal.Tie as tie
 
-lengths-ok-requires : tie.Need-lengths-ok-requires
-lengths-ok-requires c κs = search needs
+one-length-requires : tie.Need-one-length-requires
+one-length-requires c κs = search needs
 
 returns : tie.Need-returns
 unfolding refusal
-returns c = rw (fails (c .before .lengths-ok .ensures) (c .if1 .taken)) refl
+returns c = rw (fails (c .before .one-length .ensures) (c .if1 .taken)) refl
 
 -- the lengths are right
 lengths : (c : tie.Else1) →
     let a = c .before .before .args in
-    lengthsOk (length (a .deposits .now)) (length (a .differences .now)) (length (a .marks .now)) (a .first) (a .second) ≡ true
-lengths c = holds (c .before .lengths-ok .ensures) (c .if1 .left)
+    oneLength (length (a .deposits .now)) (length (a .differences .now)) (length (a .marks .now)) (a .first) (a .second) ≡ true
+lengths c = holds (c .before .one-length .ensures) (c .if1 .left)
 
-within-requires : tie.Need-within-requires
-within-requires c κs = search needs
+between-requires : tie.Need-between-requires
+between-requires c κs = search needs
 
--- what `within` gave
-range : (c : tie.After-within) → c .within .result ≡ between (pos 0) (pos most-loss) (c .before .before .before .args .loss)
-range c = c .within .ensures ∙ rw (arg (c .before .before .before .fits .loss)) refl
+-- what `between` gave
+range : (c : tie.After-between) → c .between .result ≡ between (pos 0) (pos most-loss) (c .before .before .before .args .loss)
+range c = c .between .ensures ∙ rw (arg (c .before .before .before .fits .loss)) refl
 
 returns-2 : tie.Need-returns-2
 unfolding refusal
@@ -59,9 +59,9 @@ pub refusal-spec : {M : Type 1} → statement M
 refusal-spec =
     tie.close
     (tie.spec
-    lengths-ok-requires
+    one-length-requires
     returns
-    within-requires
+    between-requires
     returns-2
     members-ok-requires
     returns-3

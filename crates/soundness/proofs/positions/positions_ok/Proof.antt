@@ -10,8 +10,8 @@ use lib.IntN.{ℤ, natAbs, _+ℤ_}
 use mir.Syntax.{w64}
 use mir.Val.{SFits, toZ, ofZ}
 use Rattle.whole.specs.Number.{within, is}
-use Rattle.whole.specs.Below.{all, sum}
-use Rattle.whole.specs.BelowLaws.{all-at, all-fails, all-more, sum-abs}
+use Rattle.whole.specs.Counting.{all, sum}
+use Rattle.whole.specs.CountingLaws.{all-at, all-fails, all-more, sum-abs}
 use Rattle.whole.specs.Tests.{both, holds, fails, within-true}
 use Rattle.whole.specs.Signs.{arg, came}
 use Rattle.whole.specs.Reps.{small}
@@ -115,8 +115,8 @@ loop-less c = omega arith
 loop-again : tie.Need-loop-again Inv-loop μ-loop
 loop-again c = (omega arith, passed c, arg (fits c) ∙ next-is c)
 
-within-requires : tie.Need-within-requires Inv-loop μ-loop
-within-requires c κs = tt
+between-requires : tie.Need-between-requires Inv-loop μ-loop
+between-requires c κs = tt
 
 returns-2 : tie.Need-returns-2 Inv-loop μ-loop
 returns-2 c =
@@ -124,7 +124,7 @@ returns-2 c =
     let e : l .loop .a ≡ s .args .s .n = omega arith in
     let h : all (s .args .s .n) (heldOk (g s) (s .args .j)) ≡ true = rw e at (l .loop .inv .1) in
     let z : toZ w64 (l .loop .sum) ≡ sum (s .args .s .n) (lotsOf (s .args .words .now) (s .args .s) (s .args .j)) = rw e at (l .loop .inv .2) in
-    rw h (c .within .ensures ∙ ap (is 0) z)
+    rw h (c .between .ensures ∙ ap (is 0) z)
 
 pub positions-ok-spec : {M : Type 1} → statement M
 positions-ok-spec =
@@ -143,5 +143,5 @@ positions-ok-spec =
     add-a
     loop-less
     loop-again
-    within-requires
+    between-requires
     returns-2)

@@ -24,20 +24,20 @@ returns-2 c = simp (holds (c .before .before .before .names-yen .ensures) (c .be
 prod-word-requires : tie.Need-prod-word-requires
 prod-word-requires c κs = search needs
 
-size-requires : tie.Need-size-requires
-size-requires c κs = search needs
+nat-abs-requires : tie.Need-nat-abs-requires
+nat-abs-requires c κs = search needs
 
 prod-word-requires-2 : tie.Need-prod-word-requires-2
 prod-word-requires-2 c κs = search needs
 
-size-requires-2 : tie.Need-size-requires-2
-size-requires-2 c κs = search needs
+nat-abs-requires-2 : tie.Need-nat-abs-requires-2
+nat-abs-requires-2 c κs = search needs
 
 returns-3 : tie.Need-returns-3
 returns-3 c =
     let d = c .before .before .before in let w = d .prod-word in let w2 = c .before .prod-word2 in
     simp (holds (d .before .before .before .before .names-yen .ensures) (d .before .before .before .if1 .left), holds (d .before .before .names-yen2 .ensures) (d .before .if2 .left))
-    (ap₂ (λ x y. not (eqb x y)) (c .before .before .size .ensures ∙ ap natAbs (came (w .result) (w .ok) (w .ensures))) (c .size2 .ensures ∙ ap natAbs (came (w2 .result) (w2 .ok) (w2 .ensures))))
+    (ap₂ (λ x y. not (eqb x y)) (c .before .before .nat-abs .ensures ∙ ap natAbs (came (w .result) (w .ok) (w .ensures))) (c .nat-abs2 .ensures ∙ ap natAbs (came (w2 .result) (w2 .ok) (w2 .ensures))))
 
 pub cross-pair-spec : {M : Type 1} → statement M
 cross-pair-spec =
@@ -48,7 +48,7 @@ cross-pair-spec =
     names-yen-requires-2
     returns-2
     prod-word-requires
-    size-requires
+    nat-abs-requires
     prod-word-requires-2
-    size-requires-2
+    nat-abs-requires-2
     returns-3)

@@ -4,8 +4,8 @@ use mathlib.Core.Bool.{true}
 use Prim.Native.Nat.{_<_}
 use native.Mathlib.Omega.{arith}
 use lib.IntN.{ℤ, natAbs}
-use Rattle.whole.specs.Number.{is, isBelow}
-use Rattle.whole.specs.Tests.{fails, holds, is-below}
+use Rattle.whole.specs.Number.{is, isOneOf}
+use Rattle.whole.specs.Tests.{fails, holds, is-one-of}
 use Rattle.whole.specs.Signs.{came}
 use Rattle.places.specs.Place.{get, prod}
 use Rattle.places.specs.ByAccount.{byAccount}
@@ -17,31 +17,31 @@ use Rattle.soundness.proofs.products.names_yen.Tie as tie
 abbrev word : tie.Start → ℤ
 word s = get byAccount (s .args .s) (s .args .words .now) (prod (s .args .j) (s .args .f))
 
-lower : (c : tie.After-is-below) → c .is-below .result ≡ isBelow (c .before .before .args .j) (word (c .before .before))
-lower c = let w = c .before .prod-word in c .is-below .ensures ∙ ap (isBelow (c .before .before .args .j)) (came (w .result) (w .ok) (w .ensures))
+lower : (c : tie.After-is-one-of) → c .is-one-of .result ≡ isOneOf (c .before .before .args .j) (word (c .before .before))
+lower c = let w = c .before .prod-word in c .is-one-of .ensures ∙ ap (isOneOf (c .before .before .args .j)) (came (w .result) (w .ok) (w .ensures))
 
-passed : (c : tie.Else1) → isBelow (c .before .before .before .args .j) (word (c .before .before .before)) ≡ true
+passed : (c : tie.Else1) → isOneOf (c .before .before .before .args .j) (word (c .before .before .before)) ≡ true
 passed c = holds (lower (c .before)) (c .if1 .left)
 
-named : (c : tie.After-size) → c .size .result ≡ natAbs (word (c .before .before .before .before))
-named c = let w = c .before .before .before .prod-word in c .size .ensures ∙ ap natAbs (came (w .result) (w .ok) (w .ensures))
+named : (c : tie.After-nat-abs) → c .nat-abs .result ≡ natAbs (word (c .before .before .before .before))
+named c = let w = c .before .before .before .prod-word in c .nat-abs .ensures ∙ ap natAbs (came (w .result) (w .ok) (w .ensures))
 
 prod-word-requires : tie.Need-prod-word-requires
 prod-word-requires c κs = search needs
 
-is-below-requires : tie.Need-is-below-requires
-is-below-requires c κs = search needs
+is-one-of-requires : tie.Need-is-one-of-requires
+is-one-of-requires c κs = search needs
 
 returns : tie.Need-returns
 returns c = simp (fails (lower (c .before)) (c .if1 .taken))
 
-size-requires : tie.Need-size-requires
-size-requires c κs = search needs
+nat-abs-requires : tie.Need-nat-abs-requires
+nat-abs-requires c κs = search needs
 
 prod-between-requires : tie.Need-prod-between-requires
 prod-between-requires c κs =
     let s = c .before .before .before .before in
-    let h : natAbs (word s) < s .args .j = is-below (s .args .j) (word s) (passed (c .before)) .high in
+    let h : natAbs (word s) < s .args .j = is-one-of (s .args .j) (word s) (passed (c .before)) .high in
     (s .pre .0, (omega (arith, named c), omega arith))
 
 returns-2 : tie.Need-returns-2
@@ -55,8 +55,8 @@ names-yen-spec =
     tie.close
     (tie.spec
     prod-word-requires
-    is-below-requires
+    is-one-of-requires
     returns
-    size-requires
+    nat-abs-requires
     prod-between-requires
     returns-2)

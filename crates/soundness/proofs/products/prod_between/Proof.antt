@@ -9,13 +9,13 @@ use Rattle.soundness.proofs.products.prod_between.Tie as tie
 prod-word-requires : tie.Need-prod-word-requires
 prod-word-requires c κs = search needs
 
-within-requires : tie.Need-within-requires
-within-requires c κs = search needs
+between-requires : tie.Need-between-requires
+between-requires c κs = search needs
 
 returns : tie.Need-returns
 returns c =
     let f = c .before .before .fits in let w = c .before .prod-word in
-    c .within .ensures ∙ λ i. between (arg (f .lo) i) (arg (f .hi) i) (came (w .result) (w .ok) (w .ensures) i)
+    c .between .ensures ∙ λ i. between (arg (f .lo) i) (arg (f .hi) i) (came (w .result) (w .ok) (w .ensures) i)
 
 pub prod-between-spec : {M : Type 1} → statement M
-prod-between-spec = tie.close (tie.spec prod-word-requires within-requires returns)
+prod-between-spec = tie.close (tie.spec prod-word-requires between-requires returns)

@@ -6,8 +6,8 @@ use mathlib.Core.Bool.{Bool, true}
 use mathlib.Core.List.{List}
 use lib.IntN.{ℤ}
 use Rattle.whole.specs.Number.{is}
-use Rattle.whole.specs.Below.{all}
-use Rattle.whole.specs.BelowLaws.{all-fails, all-more}
+use Rattle.whole.specs.Counting.{all}
+use Rattle.whole.specs.CountingLaws.{all-fails, all-more}
 use Rattle.whole.specs.Tests.{holds, fails}
 use Rattle.whole.specs.Signs.{came}
 use Rattle.places.specs.declared.Shape.{Shape}
@@ -28,8 +28,8 @@ abbrev μ-loop : tie.MeasureT-loop
 abbrev test : tie.Start Inv-loop μ-loop → ℕ → Bool
 test s = ok (s .args .words .now) (s .args .s)
 
-tested : (c : tie.After-within Inv-loop μ-loop) → let l = c .before .before .before in c .within .result ≡ test (l .before) (l .loop .a)
-tested c = let w = c .before .acct-word in c .within .ensures ∙ ap (is 0) (came (w .result) (w .ok) (w .ensures))
+tested : (c : tie.After-between Inv-loop μ-loop) → let l = c .before .before .before in c .between .result ≡ test (l .before) (l .loop .a)
+tested c = let w = c .before .acct-word in c .between .ensures ∙ ap (is 0) (came (w .result) (w .ok) (w .ensures))
 
 loop-holds : tie.Need-loop-holds Inv-loop μ-loop
 loop-holds c = (omega arith, refl)
@@ -37,8 +37,8 @@ loop-holds c = (omega arith, refl)
 acct-word-requires : tie.Need-acct-word-requires Inv-loop μ-loop
 acct-word-requires c κs = (c .before .before .pre .0, (omega arith, omega arith))
 
-within-requires : tie.Need-within-requires Inv-loop μ-loop
-within-requires c κs = tt
+between-requires : tie.Need-between-requires Inv-loop μ-loop
+between-requires c κs = tt
 
 returns : tie.Need-returns Inv-loop μ-loop
 returns c =
@@ -70,7 +70,7 @@ done-ok-spec =
     μ-loop
     loop-holds
     acct-word-requires
-    within-requires
+    between-requires
     returns
     add-a
     loop-less

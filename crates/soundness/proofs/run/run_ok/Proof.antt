@@ -4,7 +4,7 @@ use native.Mathlib.Omega.{arith}
 use mathlib.Core.Path.{_≡_, sym, ap, _∙_}
 use lib.IntN.{natAbs}
 use Rattle.whole.specs.Number.{is}
-use Rattle.whole.specs.Below.{all}
+use Rattle.whole.specs.Counting.{all}
 use Rattle.whole.specs.Tests.{fails, holds, in-range}
 use Rattle.whole.specs.Signs.{came}
 use Rattle.places.specs.Place.{View, get, phase, due}
@@ -18,8 +18,8 @@ use Rattle.soundness.proofs.run.run_ok.Tie as tie
 abbrev g : tie.Start → View
 g s = get byAccount (s .args .s) (s .args .words .now)
 
-turned : (c : tie.After-size) → c .size .result ≡ S.turn (g (c .before .before))
-turned c = let w = c .before .head-word in c .size .ensures ∙ ap natAbs (came (w .result) (w .ok) (w .ensures))
+turned : (c : tie.After-nat-abs) → c .nat-abs .result ≡ S.turn (g (c .before .before))
+turned c = let w = c .before .head-word in c .nat-abs .ensures ∙ ap natAbs (came (w .result) (w .ok) (w .ensures))
 
 -- the phase is one of the ledger's
 most : (s : tie.Start) → S.turn (g s) ≤ s .args .s .n + 1
@@ -33,8 +33,8 @@ tested c =
 head-word-requires : tie.Need-head-word-requires
 head-word-requires c κs = search needs
 
-size-requires : tie.Need-size-requires
-size-requires c κs = search needs
+nat-abs-requires : tie.Need-nat-abs-requires
+nat-abs-requires c κs = search needs
 
 returns : tie.Need-returns
 returns c = let d = c .before in let s = d .before .before in sym (not-begun (s .args .s) (g s) (omega (arith, turned d)))
@@ -66,7 +66,7 @@ run-ok-spec =
     tie.close
     (tie.spec
     head-word-requires
-    size-requires
+    nat-abs-requires
     returns
     done-ok-requires
     returns-2

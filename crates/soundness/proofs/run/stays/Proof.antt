@@ -48,11 +48,11 @@ module _ (c : tie.After-acct-word Inv-loop μ-loop) where
   back : toZ w64 (ofZ w64 (now -ℤ toZ w64 (ofZ w64 (c .acct-word .result)))) ≡ next
   back = arg fits ∙ next-is
 
-tested : (c : tie.After-small Inv-loop μ-loop) → c .small .result ≡ within mostHouse (next (c .before))
-tested c = c .small .ensures ∙ ap (within mostHouse) (back (c .before))
+tested : (c : tie.After-within Inv-loop μ-loop) → c .within .result ≡ within mostHouse (next (c .before))
+tested c = c .within .ensures ∙ ap (within mostHouse) (back (c .before))
 
 -- the walk from a, step by step
-walk : (c : tie.After-small Inv-loop μ-loop) →
+walk : (c : tie.After-within Inv-loop μ-loop) →
     let l = c .before .before .before in let s = l .before in
     S.stays (s .args .s .n - s .args .from) (s .args .house) (s .args .from) (g s) ≡ (within mostHouse (next (c .before)) && S.stays (s .args .s .n - (l .loop .a + 1)) (next (c .before)) (l .loop .a + 1) (g s))
 walk c =
@@ -69,8 +69,8 @@ acct-word-requires c κs = (c .before .before .pre .0, (omega arith, omega arith
 sub-h : tie.Need-sub-h Inv-loop μ-loop
 sub-h c = fits c
 
-small-requires : tie.Need-small-requires Inv-loop μ-loop
-small-requires c κs = tt
+within-requires : tie.Need-within-requires Inv-loop μ-loop
+within-requires c κs = tt
 
 returns : tie.Need-returns Inv-loop μ-loop
 returns c = sym (walk (c .before) ∙ rw (fails (tested (c .before)) (c .if1 .taken)) refl)
@@ -106,7 +106,7 @@ stays-spec =
     loop-holds
     acct-word-requires
     sub-h
-    small-requires
+    within-requires
     returns
     add-a
     loop-less
