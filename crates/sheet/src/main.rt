@@ -50,7 +50,7 @@ fn print_sheet(text: &[u8]) {
 }
 
 // Reads a text and prints its sheet. One byte more than a text may have is read, so that an overlong text is seen to be one.
-fn run(fd: i32, name: &[u8]) {
+fn print_day(fd: i32, name: &[u8]) {
     let mut text = [0u8; 65537];
     let got = read_text(fd, &mut text);
     let size = got.size;
@@ -63,7 +63,7 @@ fn run(fd: i32, name: &[u8]) {
 
 fn main() {
     if os::arg_count() < 2 {
-        run(STDIN_FILENO, b"standard input");
+        print_day(STDIN_FILENO, b"standard input");
         return;
     }
     let mut path = io::buffer();
@@ -77,6 +77,6 @@ fn main() {
         os::fail(&path[..size]);
         return;
     }
-    run(fd, &path[..size]);
+    print_day(fd, &path[..size]);
     libc::close(fd);
 }

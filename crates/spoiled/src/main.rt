@@ -79,7 +79,7 @@ fn requests(words: &mut [i64]) {
     number(ledger::question(words, 0).number);
 }
 
-fn run(words: &mut [i64]) {
+fn trade_and_run(words: &mut [i64]) {
     number(ledger::trade(words, 0, 1, 0, 1, 1500000).number);
     number(ledger::begin(words).number);
     number(ledger::step(words).number);
@@ -87,7 +87,7 @@ fn run(words: &mut [i64]) {
 
 fn both(words: &mut [i64]) {
     requests(words);
-    run(words);
+    trade_and_run(words);
 }
 
 fn calls(words: &mut [i64], size: usize) {

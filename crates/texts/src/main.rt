@@ -9,14 +9,14 @@ use libc::STDOUT_FILENO;
 mod cases;
 mod full;
 
-// How many texts were run, and how many gave something else than expected.
+// How many texts were tried, and how many gave something else than expected.
 struct Tally {
-    run: u64,
+    texts: u64,
     wrong: u64,
 }
 
 fn none() -> Tally {
-    Tally { run: 0, wrong: 0 }
+    Tally { texts: 0, wrong: 0 }
 }
 
 // Whether the words about a text by its sheet are others than those expected, where any are.
@@ -46,15 +46,15 @@ fn next(n: u64) -> u64 {
 
 // One text more.
 fn tried(t: Tally, text: &[u8], expected: &[u8], words: &[u8]) -> Tally {
-    let run = next(t.run);
+    let texts = next(t.texts);
     let wrong = t.wrong;
     if differs(text, expected, words) {
         return Tally {
-            run,
+            texts,
             wrong: next(wrong),
         };
     }
-    Tally { run, wrong }
+    Tally { texts, wrong }
 }
 
 // Two tallies together.
@@ -70,16 +70,16 @@ fn sum(a: u64, b: u64) -> u64 {
 
 // A kind's line, and the tally of all kinds with it.
 fn told(all: Tally, name: &[u8], t: Tally) -> Tally {
-    let run = t.run;
+    let texts = t.texts;
     let wrong = t.wrong;
     io::write_all(STDOUT_FILENO, name);
     io::write_all(STDOUT_FILENO, b": ");
-    io::print_decimal(STDOUT_FILENO, run);
+    io::print_decimal(STDOUT_FILENO, texts);
     io::write_all(STDOUT_FILENO, b" texts, ");
     io::print_decimal(STDOUT_FILENO, wrong);
     io::write_all(STDOUT_FILENO, b" differ\n");
     Tally {
-        run: sum(all.run, run),
+        texts: sum(all.texts, texts),
         wrong: sum(all.wrong, wrong),
     }
 }

@@ -2,8 +2,8 @@
 use mathlib.Core.Path.{sym}
 use lib.Seq.{length-take-le}
 use borrow.Author.Needs.{needs}
-use Rattle.sheet.proofs.run.Statement.{statement}
-use Rattle.sheet.proofs.run.Tie as tie
+use Rattle.sheet.proofs.print_day.Statement.{statement}
+use Rattle.sheet.proofs.print_day.Tie as tie
 
 slice-aggregate-read-text : tie.Need-slice-aggregate-read-text
 slice-aggregate-read-text c = search needs
@@ -29,8 +29,8 @@ returns c = search needs
 returns-2 : tie.Need-returns-2
 returns-2 c = search needs
 
-pub run-spec : {M : Type 1} → statement M
-run-spec =
+pub print-day-spec : {M : Type 1} → statement M
+print-day-spec =
     tie.close
     (tie.spec
     slice-aggregate-read-text
