@@ -33,9 +33,9 @@ fn account_of(record: &[i64; 8]) -> Account {
 
 fn call(kind: u8, account: Account, amount: i64) -> Taken {
     if kind == b'P' {
-        return rules::calls::teller_deposit(account, amount);
+        return teller::deposit_by_value(account, amount);
     }
-    rules::calls::teller_withdrawal(account, amount)
+    teller::withdraw_by_value(account, amount)
 }
 
 fn record_agrees(line: &[u8], at: usize, kind: u8, account: Account, amount: i64) -> bool {

@@ -111,11 +111,11 @@ pub fn second(name: &[u8], account: Account, expected: i64) {
 }
 
 pub fn deposit(name: &[u8], account: Account, x: i64, refusal: u64, figure: i64) {
-    show_call(name, calls::teller_deposit(account, x), refusal, figure);
+    show_call(name, teller::deposit_by_value(account, x), refusal, figure);
 }
 
 pub fn withdrawal(name: &[u8], account: Account, x: i64, refusal: u64, figure: i64) {
-    show_call(name, calls::teller_withdrawal(account, x), refusal, figure);
+    show_call(name, teller::withdraw_by_value(account, x), refusal, figure);
 }
 
 fn guarantee(account: Account, value: i64, cap: i64) -> Taken {

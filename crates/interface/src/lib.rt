@@ -115,26 +115,14 @@ pub extern "C" fn fx_share(
 pub extern "C" fn fx_teller_deposit(account: &mut Account, x: i64) -> Reply
     ensures { λ r. ⌜ (r ≡ K.replyOf (K.tellerDeposit (now (account .entry)) x)) × (now (account .exit) ≡ K.tellerDeposit (now (account .entry)) x .account) ⌝ }
 {
-    let before = *account;
-    let taken = rules::calls::teller_deposit(before, x);
-    *account = taken.account;
-    Reply {
-        number: taken.number,
-        figure: taken.figure,
-    }
+    teller::deposit(account, x)
 }
 
 #[no_mangle]
 pub extern "C" fn fx_teller_withdraw(account: &mut Account, x: i64) -> Reply
     ensures { λ r. ⌜ (r ≡ K.replyOf (K.tellerWithdrawal (now (account .entry)) x)) × (now (account .exit) ≡ K.tellerWithdrawal (now (account .entry)) x .account) ⌝ }
 {
-    let before = *account;
-    let taken = rules::calls::teller_withdrawal(before, x);
-    *account = taken.account;
-    Reply {
-        number: taken.number,
-        figure: taken.figure,
-    }
+    teller::withdraw(account, x)
 }
 
 // The bytes of the sheet, written at the start of `out`; 0, and `out` as it was, where it has not room for every sheet (65,536 bytes).

@@ -141,17 +141,17 @@ Holds rule 𝓤 c =
 -- ---- the records as the machine holds them
 
 -- the machine's value of an account, of a call's reply and of an amount
-abbrev account-word : Account → Val
+abbrev pub account-word : Account → Val
 account-word = Struct.val AccountType.the-type AccountLaws.the-laws
 
 abbrev reply-word : Taken → Val
 reply-word t = Struct.val ReplyType.the-type ReplyLaws.the-laws (replyOf t)
 
-abbrev amount-word : ℤ → Val
+abbrev pub amount-word : ℤ → Val
 amount-word x = vint w64 (ofZ w64 x)
 
 -- that a value is that of a record: every figure in it fits its 64 bits
-abbrev IsAccount : Account → Type 0
+abbrev pub IsAccount : Account → Type 0
 IsAccount account = Is AccountType.the-row account (account-word account ∷ [])
 
 abbrev IsTaken : Taken → Val → Type 0
@@ -170,7 +170,7 @@ reply-is t is =
     Struct.owes ReplyType.the-type ReplyLaws.the-laws (replyOf t) (owed .0, (owed .1 .0, tt))
 
 -- what holds of nothing may be added
-also : {M : Type 1} (𝓤 : URA M) (P Q : SProp 𝓤) → ent 𝓤 (emp 𝓤) Q → ent 𝓤 P (sep 𝓤 P Q)
+pub also : {M : Type 1} (𝓤 : URA M) (P Q : SProp 𝓤) → ent 𝓤 (emp 𝓤) Q → ent 𝓤 P (sep 𝓤 P Q)
 also 𝓤 P Q e = via 𝓤 (sep 𝓤 (emp 𝓤) P) (emp∗ 𝓤 P) (via 𝓤 (sep 𝓤 Q P) (monoL 𝓤 P e) (comm∗ 𝓤 Q P))
 
 -- ---- the walk, for one loan: of the account `before`, at the address (b, o), under the ghost name γ, for the lifetime κ, of which q is held

@@ -1,12 +1,8 @@
--- The window law at `rules::calls::teller_withdrawal`, whose theorem says that it answers by `tellerWithdrawal`: the contract says of the
--- rule's reply and account what they are. Assumes nothing.
+-- The record is passed on to `teller::withdraw`, whose contract this is. Assumes nothing.
 use mathlib.Core.Path.{refl}
-use base.Logic.{emp}
-use contract.Monad.{factI}
-use Rattle.rules.specs.AccountCalls.{tellerWithdrawal}
-use Rattle.rules.proofs.calls.teller_withdrawal.Symbol as callee
-use Rattle.rules.proofs.calls.teller_withdrawal.Met as callee-theorem
-use Rattle.teller.proofs.Window.{window-law}
+use Rattle.teller.proofs.withdraw.Symbol as callee
+use Rattle.teller.proofs.withdraw.Met as callee-theorem
+use Rattle.teller.proofs.PassedOn.{passed-on-law}
 use Rattle.interface.proofs.fx_teller_withdraw as written
 use Rattle.interface.proofs.fx_teller_withdraw.Key as key
 use Rattle.interface.proofs.fx_teller_withdraw.Statement as stated
@@ -15,6 +11,5 @@ use Rattle.interface.proofs.fx_teller_withdraw.Code as code
 pub fx-teller-withdraw-spec : {M : Type 1} → stated.statement M
 unfolding code.routine
 fx-teller-withdraw-spec 𝓤 H 𝓜 𝓖 𝓡 =
-    window-law tellerWithdrawal key.name callee.name code.env callee.routine refl 𝓤 H 𝓜 𝓖 𝓡
-    (code.unfolded 𝓤 H 𝓜 𝓡) (callee-theorem.met 𝓤 H 𝓜 𝓖 𝓡)
-    (written.clauses 𝓤 H (𝓖 .A) (𝓜 .mem) (𝓡 .run)) (λ κs a g. factI 𝓤 _ (emp 𝓤) (refl, refl))
+    passed-on-law key.name callee.name code.env callee.routine refl 𝓤 H 𝓜 𝓖 𝓡 (code.unfolded 𝓤 H 𝓜 𝓡)
+    (written.clauses 𝓤 H (𝓖 .A) (𝓜 .mem) (𝓡 .run)) (callee-theorem.met 𝓤 H 𝓜 𝓖 𝓡)

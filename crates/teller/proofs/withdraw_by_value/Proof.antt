@@ -1,0 +1,19 @@
+-- The law of a record passed by value at the window `withdraw`, whose theorem says that it answers by `tellerWithdrawal`: the contract says
+-- what the rule's answer is. Assumes nothing.
+use mathlib.Core.Path.{refl}
+use base.Logic.{emp}
+use contract.Monad.{factI}
+use Rattle.rules.specs.AccountCalls.{tellerWithdrawal}
+use Rattle.teller.proofs.withdraw.Symbol as window
+use Rattle.teller.proofs.withdraw.Met as window-theorem
+use Rattle.teller.proofs.LentCopy.{lent-copy-law}
+use Rattle.teller.proofs.withdraw_by_value as written
+use Rattle.teller.proofs.withdraw_by_value.Key as key
+use Rattle.teller.proofs.withdraw_by_value.Statement as stated
+use Rattle.teller.proofs.withdraw_by_value.Code as code
+
+pub withdraw-by-value-spec : {M : Type 1} → stated.statement M
+unfolding code.routine
+withdraw-by-value-spec 𝓤 H 𝓜 𝓖 𝓡 =
+    lent-copy-law tellerWithdrawal key.name window.name code.env window.routine refl 𝓤 H 𝓜 𝓖 𝓡 (code.unfolded 𝓤 H 𝓜 𝓡) (window-theorem.met 𝓤 H 𝓜 𝓖 𝓡)
+    (written.clauses 𝓤 H (𝓖 .A) (𝓜 .mem) (𝓡 .run)) (λ κs a g. factI 𝓤 _ (emp 𝓤) refl)
