@@ -1,17 +1,15 @@
--- The ledger that is meant stays sound, call by call; what its functions behind the gate answer is what it performs; the day file's places are
--- those of its layout; a close's lists are its columns. Assumes nothing.
+-- The ledger that is meant stays sound, call by call; what its functions behind the gate answer is what it performs; a close's lists
+-- are its columns. Assumes nothing.
 use mathlib.Core.Path.{_≡_, refl, sym, _∙_, ap}
 use mathlib.Core.List.{List}
-use Prim.Native.Nat.{ℕ, zero, suc, _+_, _≤_}
-use native.Mathlib.Nat.{mul-comm}
-use native.Mathlib.Omega.{arith}
+use Prim.Native.Nat.{ℕ, zero, suc, _≤_}
 use lib.IntN.{ℤ}
 use lib.ListN.{length, take, drop}
 use lib.Seq.{sets}
 use Rattle.rules.specs.declared.Reply.{Reply}
 use Rattle.rules.specs.declared.Standing.{Standing}
 use Rattle.places.specs.declared.Shape.{Shape}
-use Rattle.places.specs.Place.{prod, acct, held, wordsOf, get}
+use Rattle.places.specs.Place.{get}
 use Rattle.places.specs.Act.{finish}
 use Rattle.places.specs.ActLaws.{performed-at}
 use Rattle.places.specs.ByAccount.{byAccount}
@@ -24,25 +22,7 @@ use Rattle.acts.specs.Requests.{questionRule}
 use Rattle.closing.specs.CloseKeeps.{close-keeps}
 use Rattle.dayfile.specs.CallLines.{Call, deposit, withdrawal, guarantee, begin, step, trade, close, none, column}
 use Rattle.lines.proofs.WriteLaws.{take-figures}
-use Rattle.dayfile.specs.Words.{productWord, accountWord, positionWord, lengthOf}
 use Rattle.calls.specs.Ledger.{ruleOf, theLedger}
-
--- ---- the layout
-module _ (s : Shape) where
-  pub size-is : wordsOf s ≡ lengthOf (s .n) (s .p)
-  size-is = rw (mul-comm 5 (s .p), mul-comm 2 (s .p)) refl
-
-  pub product-place : (j f : ℕ) → byAccount .at s (prod j f) ≡ productWord j + f
-  unfolding byAccount
-  product-place j f = rw (mul-comm 5 j) refl
-
-  pub account-place : (a f : ℕ) → byAccount .at s (acct a f) ≡ accountWord (s .p) a + f
-  unfolding byAccount
-  account-place a f = rw (mul-comm 5 (s .p), mul-comm 2 (s .p)) refl
-
-  pub position-place : (a j f : ℕ) → byAccount .at s (held a j f) ≡ positionWord (s .p) a j + f
-  unfolding byAccount
-  position-place a j f = rw (mul-comm 5 (s .p), mul-comm 2 (s .p), mul-comm 2 j) (omega arith)
 
 -- ---- a close's columns, each at the start of its list
 pub column-length : (k p : ℕ) (v : List ℤ) → length (column k p v) ≡ p
@@ -54,9 +34,6 @@ column-taken l k p v X h e = ap (take p) e ∙ take-figures l (column k p v) p (
 
 -- ---- a sound ledger of the shape s
 module _ (s : Shape) (W : List ℤ) (l : Ledger byAccount s W) where
-  pub long : length W ≡ lengthOf (s .n) (s .p)
-  long = l .sized .sized ∙ size-is s
-
   call-keeps : (call : Call) → After byAccount s W (ruleOf call)
   call-keeps (deposit a x) = deposit-keeps byAccount s W a x l
   call-keeps (withdrawal a x) = withdraw-keeps byAccount s W a x l

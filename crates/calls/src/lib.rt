@@ -1,5 +1,6 @@
 // The ledger's calls, as the sheet makes them: the one place that knows which ledger it is. The start is judged sound once; after that
 // every call and every question runs on words that are proved sound, by the functions behind the gate.
+use places::MOST_PRODUCTS;
 use places::Shape;
 use rules::Reply;
 use rules::Standing;
@@ -9,8 +10,6 @@ ghost use Rattle.soundness.specs.SoundLaws.{Ledger};
 ghost use Rattle.dayfile.specs.CallLines.{callOf};
 ghost use Rattle.calls.specs.InsideCalls.{tradeOf, closeOf, callOnAll};
 ghost use Rattle.calls.specs.Ledger.{theLedger};
-
-const MOST_PRODUCTS: usize = 16;
 
 pub fn is_sound(words: &[i64]) -> bool
     ensures { λ r. ⌜ r ≡ theLedger .sound (now (words .entry)) ⌝ }

@@ -21,7 +21,7 @@ use Rattle.rules.specs.ProductLaws.{abs-mul}
 use Rattle.places.specs.declared.Shape.{Shape}
 use Rattle.places.specs.Place.{Place, head, View, Layout, Put, get, puts, house, productKind, floorMark, price, principal, quote, kind, cash, guarantee, cap, margin, lots, book}
 use Rattle.places.specs.PlaceLaws.{length-puts}
-use Rattle.places.specs.Act.{statedCount, shapeOf}
+use Rattle.places.specs.Act.{statedCount, mostAccounts, mostProducts, shapeOf}
 use Rattle.places.specs.ActLaws.{unless-puts, performed, ledger-of, sound-of}
 use Rattle.soundness.specs.Sound.{accountAt, namesYen, yenPair, crossPair, pairOk, productOk, heldOk, placesOk, sound}
 use Rattle.soundness.specs.Perform.{refuse, refuseAt, does, perform}
@@ -43,8 +43,8 @@ new-book-in k x t h i = go (isYen k) i
 four : {a b c d : Bool} → a ≡ true → b ≡ true → c ≡ true → d ≡ true → (a && b && c && d) ≡ true
 four h i j k = rw (h, i, j, k)
 
-module _ (prices rates8 rates104 lags : List ℤ) (s : Shape) (g g′ : View) (f : After prices rates8 rates104 lags s g g′) (few : s .p ≤ 16) (ok : Facts s g)
-    (fig : all (s .p) (figureOk prices rates8 rates104 lags g) ≡ true) (long : Lengths (s .p) prices rates8 rates104 lags)
+module _ (prices rates8 rates104 lags : List ℤ) (s : Shape) (g g′ : View) (f : After prices rates8 rates104 lags s g g′) (few : s .p ≤ mostProducts)
+    (ok : Facts s g) (fig : all (s .p) (figureOk prices rates8 rates104 lags g) ≡ true) (long : Lengths (s .p) prices rates8 rates104 lags)
     (none : (a : ℕ) → a < s .n → overGross prices lags s g a ≡ false) where
   -- ---- products
 
@@ -171,7 +171,7 @@ module _ (L : Layout) (s : Shape) (W : List ℤ) (prices rates8 rates104 lags : 
         some = l .some;
         some′ = l .some′;
         sized = record { few = l .sized .few; few′ = l .sized .few′; sized = length-puts L s us W ∙ l .sized .sized };
-        shaped = (λ i. record { n = statedCount 64 (n-same i); p = statedCount 16 (p-same i) }) ∙ l .shaped;
+        shaped = (λ i. record { n = statedCount mostAccounts (n-same i); p = statedCount mostProducts (p-same i) }) ∙ l .shaped;
         places =
             from-facts s (get L s (puts L s W us))
             (facts-keep prices rates8 rates104 lags s g (get L s (puts L s W us)) f (l .sized .few′) (ledger-facts L s W l) fig (lengths-of prices rates8 rates104 lags (s .p) t) (none-over (s .n) (overGross prices lags s g) e));

@@ -19,6 +19,7 @@ use Rattle.rules.specs.ProductLaws.{Fair, fair-in, rate-in, margin-in, price-mo
 use Rattle.rules.specs.Account.{accountOk}
 use Rattle.rules.specs.AccountLaws.{account-facts}
 use Rattle.places.specs.declared.Shape.{Shape}
+use Rattle.places.specs.Act.{mostProducts}
 use Rattle.places.specs.Place.{Place, View, dues, productKind, floorMark, price, principal, quote, cash, due, lots, book}
 use Rattle.soundness.specs.Sound.{accountAt, productOk, namesYen, yenPair, crossPair, pairOk}
 use Rattle.soundness.specs.SoundLaws.{Facts}
@@ -90,12 +91,12 @@ module _ (prices : List ℤ) (s : Shape) (g : View) (a : ℕ) (r : Row prices s 
       go false = omega arith
 
   -- the next due, with what the first j products add
-  pub part-in : (lags : List ℤ) (d j : ℕ) → s .p ≤ 16 → j ≤ s .p → natAbs (nextDue g a d) ≤ mostGross → natAbs (nextDue g a d +ℤ sum j (addedTo prices lags g a d)) ≤ 1480000000000000
+  pub part-in : (lags : List ℤ) (d j : ℕ) → s .p ≤ mostProducts → j ≤ s .p → natAbs (nextDue g a d) ≤ mostGross → natAbs (nextDue g a d +ℤ sum j (addedTo prices lags g a d)) ≤ 1480000000000000
   part-in lags d j few h n =
       let m = sum-abs 30000000000000 j (addedTo prices lags g a d) (λ i k. added-in lags d i (omega arith)) in
       omega (arith, abs-add (nextDue g a d) (sum j (addedTo prices lags g a d)))
 
-  pub due-in : (lags : List ℤ) (d : ℕ) → s .p ≤ 16 → natAbs (nextDue g a d) ≤ mostGross → natAbs (newDue prices lags s g a d) ≤ 1480000000000000
+  pub due-in : (lags : List ℤ) (d : ℕ) → s .p ≤ mostProducts → natAbs (nextDue g a d) ≤ mostGross → natAbs (newDue prices lags s g a d) ≤ 1480000000000000
   unfolding newDue
   due-in lags d few n = part-in lags d (s .p) few (omega arith) n
 

@@ -3,13 +3,16 @@ use mathlib.Core.Path.{_≡_, refl, sym, _∙_, ap, subst}
 use mathlib.Core.Bool.{Bool, true, false, cond}
 use mathlib.Core.List.{List, [], _∷_, _++_}
 use Prim.Native.Nat.{ℕ, zero, suc, _+_, _*_, _≤_, _<_}
-use native.Mathlib.Nat.{mul-le-mul, not-suc-le-zero}
+use native.Mathlib.Nat.{not-suc-le-zero}
 use native.Mathlib.Omega.{arith}
 use borrow.Author.Tests.{eq-eqb, ne-eqb, lt-ltb, le-ltb}
 use lib.Dec.{eqb, ltb}
 use lib.IntN.{ℤ, pos}
-use lib.ListN.{length, take, drop, replicate, getD, length-append}
+use lib.ListN.{length, take, drop, replicate, length-append}
 use lib.Seq.{sets, sets-eq}
+use Rattle.places.specs.declared.Shape.{Shape}
+use Rattle.places.specs.Place.{house, get}
+use Rattle.places.specs.ByAccount.{byAccount}
 use Rattle.lines.specs.Bytes.{bytes}
 use Rattle.lines.specs.Lines.{lost, longest}
 use Rattle.lines.specs.Print.{numbersLine, badLine}
@@ -18,16 +21,12 @@ use Rattle.lines.proofs.PrintLaws.{line-length}
 use Rattle.dayfile.specs.CallLines.{callAt, callsAt, Call}
 use Rattle.dayfile.specs.Day.{startOf, Day, bodiesOf, dayOf}
 use Rattle.dayfile.specs.InsideDayfile.{Modest, Bodied}
-use Rattle.dayfile.specs.Table.{contentsOf}
-use Rattle.dayfile.specs.Words.{lengthOf}
+use Rattle.dayfile.specs.Table.{contentsOf, ledgerShape}
 use Rattle.calls.specs.Ledger.{LedgerRules}
 use Rattle.day.specs.Sheet.{replyLine, accountNumbers, accountsPart, housePart, endPart, callsPart, goodSheet, daySheet, sheetOf, room, answerOf}
 use Rattle.dayfile.specs.declared.Contents.{Contents}
 use Rattle.rules.specs.declared.Reply.{Reply}
 use Rattle.dayfile.specs.declared.Bodies.{Bodies}
-
-pub size-most : (n p : ℕ) → n ≤ 64 → p ≤ 16 → lengthOf n p ≤ 2644
-size-most n p hn hp = omega (arith, mul-le-mul {n₁ = n} {m₁ = 8 + p * 2} {n₂ = 64} {m₂ = 40} hn (omega arith))
 
 pub take-replicate : {X : Type 0} (k n : ℕ) (a : X) → k ≤ n → take k (replicate n a) ≡ replicate k a
 take-replicate zero n a h = refl
@@ -35,27 +34,27 @@ take-replicate (suc k) zero a h = absurd (not-suc-le-zero h)
 take-replicate (suc k) (suc n) a h = ap (λ (l : List _). a ∷ l) (take-replicate k n a (omega arith))
 
 -- ---- lengths
-house-length : (w : List ℤ) → length (housePart w) ≤ 28
-house-length w = omega (arith, line-length (getD w 3 (pos 0) ∷ []))
+house-length : (s : Shape) (w : List ℤ) → length (housePart s w) ≤ 28
+house-length s w = omega (arith, line-length (get byAccount s w house ∷ []))
 
 pub reply-length : (r : Reply) → length (replyLine r) ≤ 44
 reply-length r = line-length (pos (r .number) ∷ r .figure ∷ [])
 
-module _ (l : LedgerRules) (n p : ℕ) where
-  accounts-length : (a k : ℕ) (w : List ℤ) → length (accountsPart l p a k w) ≤ k * 176
+module _ (l : LedgerRules) (s : Shape) where
+  accounts-length : (a k : ℕ) (w : List ℤ) → length (accountsPart l s a k w) ≤ k * 176
   unfolding accountsPart
   accounts-length a zero w = omega arith
-  accounts-length a (suc k) w = omega (arith, length-append (numbersLine (accountNumbers l p a w)) (accountsPart l p (a + 1) k w), line-length (accountNumbers l p a w), accounts-length (a + 1) k w)
+  accounts-length a (suc k) w = omega (arith, length-append (numbersLine (accountNumbers l s a w)) (accountsPart l s (a + 1) k w), line-length (accountNumbers l s a w), accounts-length (a + 1) k w)
 
-  end-length : (w : List ℤ) → length (endPart l n p w) ≤ n * 176 + 28
-  end-length w = omega (arith, length-append (accountsPart l p 0 n w) (housePart w), accounts-length 0 n w, house-length w)
+  end-length : (w : List ℤ) → length (endPart l s w) ≤ s .n * 176 + 28
+  end-length w = omega (arith, length-append (accountsPart l s 0 (s .n) w) (housePart s w), accounts-length 0 (s .n) w, house-length s w)
 
-  calls-length : (cs : List Call) (w : List ℤ) → length (callsPart l n p cs w) ≤ length cs * 44 + n * 176 + 28
+  calls-length : (cs : List Call) (w : List ℤ) → length (callsPart l s cs w) ≤ length cs * 44 + s .n * 176 + 28
   unfolding callsPart
   calls-length [] w = omega (arith, end-length w)
   calls-length (c ∷ cs) w =
       let d = l .perform c w in
-      omega (arith, length-append (replyLine (d .0)) (callsPart l n p cs (d .1)), reply-length (d .0), calls-length cs (d .1))
+      omega (arith, length-append (replyLine (d .0)) (callsPart l s cs (d .1)), reply-length (d .0), calls-length cs (d .1))
 
 calls-count : (text : List ℕ) (p at k : ℕ) → length (callsAt text p at k) ≡ k
 unfolding callsAt
@@ -71,7 +70,7 @@ unfolding goodSheet bodiesOf
 good-length l text c m =
     let d = bodiesOf text c in
     let e : length (d .calls) ≡ c .calls = calls-count text (c .products) _ (c .calls) in
-    omega (arith, m, calls-length l (c .accounts) (c .products) (d .calls) (d .words))
+    omega (arith, m, calls-length l (ledgerShape c) (d .calls) (d .words))
 
 cond-low : (t : Bool) (a b : List ℕ) (k : ℕ) → length a ≤ k → length b ≤ k → length (cond t a b) ≤ k
 cond-low true a b k p q = p
@@ -127,11 +126,11 @@ calls-are : (text : List ℕ) (c : Contents) → bodiesOf text c .calls ≡ call
 unfolding bodiesOf
 calls-are text c = refl
 
-good-by : (l : LedgerRules) (text : List ℕ) (c : Contents) (r : Bodies) (w : List ℤ) → Bodied text c r w → goodSheet l (bodiesOf text c) ≡ bytes "FXSHEET\n" ++ callsPart l (bodiesOf text c .accounts) (bodiesOf text c .products) (callsAt text (c .products) (r .«calls_at») (c .calls)) w
+good-by : (l : LedgerRules) (text : List ℕ) (c : Contents) (r : Bodies) (w : List ℤ) → Bodied text c r w → goodSheet l (bodiesOf text c) ≡ bytes "FXSHEET\n" ++ callsPart l (bodiesOf text c .shape) (callsAt text (c .products) (r .«calls_at») (c .calls)) w
 unfolding goodSheet
 good-by l text c r w b = rw (calls-are text c, b .calls-at-is, b .words-are) refl
 
-pub good-is : (l : LedgerRules) (text : List ℕ) (c : Contents) (r : Bodies) (w : List ℤ) → Bodied text c r w → (bodiesOf text c .at ≡ lost → ⊥) → l .sound (bodiesOf text c .words) ≡ true → daySheet l (bodiesOf text c) ≡ bytes "FXSHEET\n" ++ callsPart l (c .accounts) (c .products) (callsAt text (c .products) (r .«calls_at») (c .calls)) w
+pub good-is : (l : LedgerRules) (text : List ℕ) (c : Contents) (r : Bodies) (w : List ℤ) → Bodied text c r w → (bodiesOf text c .at ≡ lost → ⊥) → l .sound (bodiesOf text c .words) ≡ true → daySheet l (bodiesOf text c) ≡ bytes "FXSHEET\n" ++ callsPart l (ledgerShape c) (callsAt text (c .products) (r .«calls_at») (c .calls)) w
 unfolding bodiesOf
 good-is l text c r w b n e = sym (day-good l (bodiesOf text c) n e) ∙ good-by l text c r w b
 

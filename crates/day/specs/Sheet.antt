@@ -4,13 +4,15 @@ use mathlib.Core.List.{List, [], _∷_, _++_}
 use Prim.Native.Nat.{ℕ, zero, suc, _+_}
 use lib.Dec.{ltb, eqb}
 use lib.IntN.{ℤ, pos}
-use lib.ListN.{length, getD, drop}
+use lib.ListN.{length, drop}
+use Rattle.places.specs.declared.Shape.{Shape}
+use Rattle.places.specs.Place.{cash, due, house, get}
+use Rattle.places.specs.ByAccount.{byAccount}
 use Rattle.lines.specs.Bytes.{bytes}
 use Rattle.lines.specs.Lines.{longest, lost}
 use Rattle.lines.specs.Print.{numbersLine, badLine}
 use Rattle.dayfile.specs.CallLines.{Call}
 use Rattle.dayfile.specs.Day.{Day, dayOf}
-use Rattle.dayfile.specs.Words.{accountWord}
 use Rattle.rules.specs.declared.Reply.{Reply}
 use Rattle.calls.specs.Ledger.{LedgerRules}
 
@@ -19,37 +21,39 @@ abbrev pub replyLine : Reply → List ℕ
 replyLine r = numbersLine (pos (r .number) ∷ r .figure ∷ [])
 
 -- 01: "per account its number, cash, three dues, limit, two shortfalls"
-abbrev pub accountNumbers : LedgerRules → (p a : ℕ) → List ℤ → List ℤ
-accountNumbers l p a words =
+abbrev pub accountNumbers : LedgerRules → Shape → ℕ → List ℤ → List ℤ
+accountNumbers l s a words =
+    let word = get byAccount s words in
+    let standing = l .question (pos a) words in
     pos a
-    ∷ getD words (accountWord p a + 1) (pos 0)
-    ∷ getD words (accountWord p a + 5) (pos 0)
-    ∷ getD words (accountWord p a + 6) (pos 0)
-    ∷ getD words (accountWord p a + 7) (pos 0)
-    ∷ l .question (pos a) words .limit
-    ∷ l .question (pos a) words .first
-    ∷ l .question (pos a) words .second
+    ∷ word (cash a)
+    ∷ word (due a 0)
+    ∷ word (due a 1)
+    ∷ word (due a 2)
+    ∷ standing .limit
+    ∷ standing .first
+    ∷ standing .second
     ∷ []
 
 -- k accounts from number a on
-unfoldable pub accountsPart : LedgerRules → (p a k : ℕ) → List ℤ → List ℕ
-accountsPart l p a zero words = []
-accountsPart l p a (suc k) words = numbersLine (accountNumbers l p a words) ++ accountsPart l p (a + 1) k words
+unfoldable pub accountsPart : LedgerRules → (s : Shape) (a k : ℕ) → List ℤ → List ℕ
+accountsPart l s a zero words = []
+accountsPart l s a (suc k) words = numbersLine (accountNumbers l s a words) ++ accountsPart l s (a + 1) k words
 
 -- 01: "then house"
-abbrev pub housePart : List ℤ → List ℕ
-housePart words = bytes "HOUSE " ++ numbersLine (getD words 3 (pos 0) ∷ [])
+abbrev pub housePart : Shape → List ℤ → List ℕ
+housePart s words = bytes "HOUSE " ++ numbersLine (get byAccount s words house ∷ [])
 
-abbrev pub endPart : LedgerRules → (n p : ℕ) → List ℤ → List ℕ
-endPart l n p words = accountsPart l p 0 n words ++ housePart words
+abbrev pub endPart : LedgerRules → Shape → List ℤ → List ℕ
+endPart l s words = accountsPart l s 0 (s .n) words ++ housePart s words
 
 -- the calls, each on the words that the calls before it left; then the accounts and the house
-unfoldable pub callsPart : LedgerRules → (n p : ℕ) → List Call → List ℤ → List ℕ
-callsPart l n p [] words = endPart l n p words
-callsPart l n p (c ∷ cs) words = replyLine (l .perform c words .0) ++ callsPart l n p cs (l .perform c words .1)
+unfoldable pub callsPart : LedgerRules → Shape → List Call → List ℤ → List ℕ
+callsPart l s [] words = endPart l s words
+callsPart l s (c ∷ cs) words = replyLine (l .perform c words .0) ++ callsPart l s cs (l .perform c words .1)
 
 unfoldable pub goodSheet : LedgerRules → Day → List ℕ
-goodSheet l d = bytes "FXSHEET\n" ++ callsPart l (d .accounts) (d .products) (d .calls) (d .words)
+goodSheet l d = bytes "FXSHEET\n" ++ callsPart l (d .shape) (d .calls) (d .words)
 
 -- 01: "a bad text prints only `BAD` and its first bad line", "an unsound start prints `BAD 0`". Of the two the bad line is printed
 unfoldable pub daySheet : LedgerRules → Day → List ℕ

@@ -3,6 +3,7 @@ use mathlib.Core.Path.{_≡_, refl}
 use mathlib.Core.List.{List, [], _∷_, _++_}
 use Prim.Native.Nat.{ℕ}
 use lib.IntN.{pos, negsuc}
+use Rattle.places.specs.ByAccount.{byAccount}
 use Rattle.lines.specs.Bytes.{bytes}
 use Rattle.lines.specs.Text.{numberAt}
 use Rattle.lines.specs.Lines.{past, fieldAt, figuresAt, kindAt, lines}
@@ -32,7 +33,7 @@ the-words : dayOf (top ++ calls) .words
     ∷ pos 0 ∷ pos 50000 ∷ pos 0 ∷ pos 0 ∷ pos 0 ∷ pos 200000 ∷ pos 0 ∷ pos 0 ∷ pos 0 ∷ pos 0
     ∷ pos 1 ∷ pos 300000 ∷ pos 0 ∷ pos 0 ∷ pos 0 ∷ negsuc 199999 ∷ pos 0 ∷ pos 0 ∷ pos 0 ∷ pos 0
     ∷ []
-unfolding top calls numberAt past fieldAt figuresAt lines countLine contentsOf kindAt positionAt productsFrom accountsFrom positionsFrom callsFrom figuresOf callAt callOf callsAt bodiesOf
+unfolding top calls numberAt past fieldAt figuresAt lines countLine contentsOf kindAt positionAt productsFrom accountsFrom positionsFrom callsFrom figuresOf callAt callOf callsAt bodiesOf byAccount
 the-words = refl
 
 small : List ℕ

@@ -9,21 +9,22 @@ ghost use Prim.Native.Nat.{_+_, _*_, _<_, _≤_};
 ghost use lib.IntN.{pos};
 ghost use lib.ListN.{length, replicate};
 ghost use lib.Seq.{sets};
+ghost use Rattle.places.specs.Place.{wordsOf};
+ghost use Rattle.places.specs.PlaceLaws.{Sized};
+ghost use Rattle.places.specs.Act.{mostWords};
 ghost use Rattle.places.specs.ByAccount.{byAccount};
 ghost use Rattle.soundness.specs.SoundLaws.{Ledger};
 ghost use Rattle.lines.specs.Print.{numbersLine, badLine};
-ghost use Rattle.dayfile.specs.CallLines.{callsAt};
+ghost use Rattle.dayfile.specs.CallLines.{mostFigures, callsAt};
 ghost use Rattle.dayfile.specs.Day.{bodiesOf, dayOf};
 ghost use Rattle.dayfile.specs.InsideDayfile.{Modest};
-ghost use Rattle.dayfile.specs.Words.{accountWord, lengthOf};
+ghost use Rattle.dayfile.specs.Table.{ledgerShape};
 ghost use Rattle.day.specs.InsideDay.{Turned};
 ghost use Rattle.calls.specs.Ledger.{theLedger};
 ghost use Rattle.day.specs.Sheet.{replyLine, accountNumbers, housePart, endPart, callsPart, daySheet, sheetOf, answerOf};
 
-// Room for every sheet, and the words of the largest ledger: 64 accounts and 16 products.
+// Room for every sheet.
 const ROOM: usize = 65536;
-
-const WORDS: usize = 2644;
 
 // Where the next call's line starts, and where the next byte is written.
 pub struct Turn {
@@ -51,16 +52,14 @@ fn put_reply(out: &mut [u8], at: usize, number: u64, figure: i64) -> usize
 
 // An account's line: number, cash, dues, limit, shortfalls.
 fn put_account(out: &mut [u8], at: usize, words: &[i64], s: Shape, a: usize) -> usize
-    requires { ⌜ a ≤ 64 ⌝ ∗ ⌜ accountWord (s .p) a + 8 ≤ length (now words) ⌝ ∗ ⌜ Ledger byAccount s (now words) ⌝ ∗ ⌜ at + 176 ≤ length (now out) ⌝ }
-    ensures { λ r. ⌜ (r ≡ at + length (numbersLine (accountNumbers theLedger (s .p) a (now (words .entry))))) × (now (out .exit) ≡ sets (now (out .entry)) at (numbersLine (accountNumbers theLedger (s .p) a (now (words .entry))))) ⌝ }
+    requires { ⌜ a < s .n ⌝ ∗ ⌜ Ledger byAccount s (now words) ⌝ ∗ ⌜ at + 176 ≤ length (now out) ⌝ }
+    ensures { λ r. ⌜ (r ≡ at + length (numbersLine (accountNumbers theLedger s a (now (words .entry))))) × (now (out .exit) ≡ sets (now (out .entry)) at (numbersLine (accountNumbers theLedger s a (now (words .entry))))) ⌝ }
 {
-    let p = s.p;
-    let base = 4 + p * 5 + a * (8 + p * 2);
     let number = a as i64;
-    let cash = words[base + 1];
-    let due0 = words[base + 5];
-    let due1 = words[base + 6];
-    let due2 = words[base + 7];
+    let cash = places::acct_word(words, s, a, places::CASH);
+    let due0 = places::acct_word(words, s, a, places::FIRST_DUE);
+    let due1 = places::acct_word(words, s, a, places::FIRST_DUE + 1);
+    let due2 = places::acct_word(words, s, a, places::FIRST_DUE + 2);
     let standing = calls::question(words, s, number);
     let limit = standing.limit;
     let first = standing.first;
@@ -70,11 +69,11 @@ fn put_account(out: &mut [u8], at: usize, words: &[i64], s: Shape, a: usize) -> 
 }
 
 // The house's line.
-fn put_house(out: &mut [u8], at: usize, words: &[i64]) -> usize
-    requires { ⌜ 4 ≤ length (now words) ⌝ ∗ ⌜ at + 28 ≤ length (now out) ⌝ }
-    ensures { λ r. ⌜ (r ≡ at + length (housePart (now (words .entry)))) × (now (out .exit) ≡ sets (now (out .entry)) at (housePart (now (words .entry)))) ⌝ }
+fn put_house(out: &mut [u8], at: usize, words: &[i64], s: Shape) -> usize
+    requires { ⌜ Sized s (now words) ⌝ ∗ ⌜ at + 28 ≤ length (now out) ⌝ }
+    ensures { λ r. ⌜ (r ≡ at + length (housePart s (now (words .entry)))) × (now (out .exit) ≡ sets (now (out .entry)) at (housePart s (now (words .entry)))) ⌝ }
 {
-    let house = words[3];
+    let house = places::head_word(words, s, places::HOUSE);
     let line = [house];
     let e = lines::put_word(out, at, b"HOUSE ");
     lines::put_line(out, e, &line)
@@ -83,7 +82,7 @@ fn put_house(out: &mut [u8], at: usize, words: &[i64]) -> usize
 // The accounts' lines and the house's.
 fn put_end(out: &mut [u8], from: usize, words: &[i64], s: Shape) -> usize
     requires { ⌜ Ledger byAccount s (now words) ⌝ ∗ ⌜ from + s .n * 176 + 28 ≤ length (now out) ⌝ }
-    ensures { λ r. ⌜ (r ≡ from + length (endPart theLedger (s .n) (s .p) (now (words .entry)))) × (now (out .exit) ≡ sets (now (out .entry)) from (endPart theLedger (s .n) (s .p) (now (words .entry)))) ⌝ }
+    ensures { λ r. ⌜ (r ≡ from + length (endPart theLedger s (now (words .entry)))) × (now (out .exit) ≡ sets (now (out .entry)) from (endPart theLedger s (now (words .entry)))) ⌝ }
 {
     let n = s.n;
     let mut at = from;
@@ -92,7 +91,7 @@ fn put_end(out: &mut [u8], from: usize, words: &[i64], s: Shape) -> usize
         at = put_account(out, at, words, s, a);
         a += 1;
     }
-    put_house(out, at, words)
+    put_house(out, at, words, s)
 }
 
 // One call: its line is read, the call is done, its number and figure are printed.
@@ -105,7 +104,7 @@ fn do_call(
     out: &mut [u8],
     put: usize,
 ) -> Turn
-    requires { ⌜ Ledger byAccount s (now words) ⌝ ∗ ⌜ 64 ≤ length (now figures) ⌝ ∗ ⌜ put + 44 ≤ length (now out) ⌝ }
+    requires { ⌜ Ledger byAccount s (now words) ⌝ ∗ ⌜ mostFigures ≤ length (now figures) ⌝ ∗ ⌜ put + 44 ≤ length (now out) ⌝ }
     ensures { λ r. ⌜ Turned theLedger (now (text .entry)) (s .p) at (now (words .entry)) (now (out .entry)) put r (now (words .exit)) (now (out .exit)) ⌝ }
 {
     let p = s.p;
@@ -130,9 +129,9 @@ fn run_calls(
     start: usize,
 ) -> usize
     requires { ⌜ Ledger byAccount s (now words) ⌝ ∗ ⌜ start + count * 44 + s .n * 176 + 28 ≤ length (now out) ⌝ }
-    ensures { λ r. ⌜ (r ≡ start + length (callsPart theLedger (s .n) (s .p) (callsAt (now (text .entry)) (s .p) from count) (now (words .entry)))) × (now (out .exit) ≡ sets (now (out .entry)) start (callsPart theLedger (s .n) (s .p) (callsAt (now (text .entry)) (s .p) from count) (now (words .entry)))) ⌝ }
+    ensures { λ r. ⌜ (r ≡ start + length (callsPart theLedger s (callsAt (now (text .entry)) (s .p) from count) (now (words .entry)))) × (now (out .exit) ≡ sets (now (out .entry)) start (callsPart theLedger s (callsAt (now (text .entry)) (s .p) from count) (now (words .entry)))) ⌝ }
 {
-    let mut figures = [0i64; 64];
+    let mut figures = [0i64; dayfile::MOST_FIGURES];
     let mut at = from;
     let mut put = start;
     let mut left = count;
@@ -147,7 +146,7 @@ fn run_calls(
 
 // The sheet behind a table of contents, by way of words that are all 0.
 fn day_sheet(text: &[u8], c: Contents, words: &mut [i64], out: &mut [u8]) -> usize
-    requires { ⌜ Modest c ⌝ ∗ ⌜ now words ≡ replicate (lengthOf (c .accounts) (c .products)) (pos 0) ⌝ ∗ ⌜ 65536 ≤ length (now out) ⌝ }
+    requires { ⌜ Modest c ⌝ ∗ ⌜ now words ≡ replicate (wordsOf (ledgerShape c)) (pos 0) ⌝ ∗ ⌜ 65536 ≤ length (now out) ⌝ }
     ensures { λ r. ⌜ (r ≡ 0 + length (daySheet theLedger (bodiesOf (now (text .entry)) c))) × (now (out .exit) ≡ sets (now (out .entry)) 0 (daySheet theLedger (bodiesOf (now (text .entry)) c))) ⌝ }
 {
     let b = dayfile::bodies_into(text, c, words);
@@ -171,13 +170,15 @@ fn day_sheet(text: &[u8], c: Contents, words: &mut [i64], out: &mut [u8]) -> usi
 
 // The sheet, by way of words for the largest ledger.
 fn sheet_by(text: &[u8], words: &mut [i64], out: &mut [u8]) -> usize
-    requires { ⌜ now words ≡ replicate 2644 (pos 0) ⌝ ∗ ⌜ 65536 ≤ length (now out) ⌝ }
+    requires { ⌜ now words ≡ replicate mostWords (pos 0) ⌝ ∗ ⌜ 65536 ≤ length (now out) ⌝ }
     ensures { λ r. ⌜ (r ≡ 0 + length (daySheet theLedger (dayOf (now (text .entry))))) × (now (out .exit) ≡ sets (now (out .entry)) 0 (daySheet theLedger (dayOf (now (text .entry))))) ⌝ }
 {
     let c = dayfile::read_contents(text);
-    let n = c.accounts;
-    let p = c.products;
-    let len = 4 + p * 5 + n * (8 + p * 2);
+    let s = Shape {
+        n: c.accounts,
+        p: c.products,
+    };
+    let len = places::words_of(s);
     day_sheet(text, c, &mut words[..len], out)
 }
 
@@ -191,6 +192,6 @@ pub fn sheet(text: &[u8], out: &mut [u8]) -> usize
     if text.len() > LONGEST {
         return put_bad(out, 0);
     }
-    let mut words = [0i64; WORDS];
+    let mut words = [0i64; places::MOST_WORDS];
     sheet_by(text, &mut words, out)
 }

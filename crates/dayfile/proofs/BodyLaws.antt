@@ -6,12 +6,13 @@ use Prim.Native.Nat.{ℕ, zero, suc, _+_, _≤_}
 use native.Mathlib.Omega.{arith}
 use lib.Dec.{eqb}
 use lib.IntN.{ℤ}
+use Rattle.places.specs.declared.Shape.{Shape}
 use Rattle.lines.specs.Lines.{lost, Line, Stand, lineStartOf, onward, lines}
 use Rattle.dayfile.specs.CallLines.{callsFrom}
 use Rattle.dayfile.specs.Day.{ended, startOf, bodiesOf}
-use Rattle.dayfile.specs.InsideDayfile.{Bodied}
-use Rattle.dayfile.specs.Sections.{noMarks, productsFrom, accountsFrom, Stated, positionsFrom}
-use Rattle.dayfile.specs.Words.{freshWords}
+use Rattle.dayfile.specs.InsideDayfile.{AllPositioned, Bodied}
+use Rattle.dayfile.specs.Sections.{freshWords, noMarks, productsFrom, accountsFrom, Stated, positionsFrom}
+use Rattle.dayfile.specs.Table.{ledgerShape}
 use Rattle.lines.specs.declared.LineStart.{LineStart}
 use Rattle.dayfile.specs.declared.Contents.{Contents}
 
@@ -27,31 +28,38 @@ module _ {M : Type 0} (read : ℕ → ℕ → M → Line M) where
   lines-line zero i s = omega arith
   lines-line (suc k) i s = line-step k (eqb (read i (s .at) (s .held) .next) lost) (eqb (read i (s .at) (s .held) .next) lost) (read i (s .at) (s .held) .next) (s .line) (read i (s .at) (s .held) .held) (lines read k (i + 1) (onward (s .line) (read i (s .at) (s .held)))) (lines-line k (i + 1) (onward (s .line) (read i (s .at) (s .held))))
 
-pub products-line : (text : List ℕ) (at line p : ℕ) (w : List ℤ) → productsFrom text at line p w .line ≤ line + p
-unfolding productsFrom
-products-line text at line p w = lines-line _ p 0 _
+module _ (text : List ℕ) (at line : ℕ) (s : Shape) where
+  pub products-line : (w : List ℤ) → productsFrom text at line s w .line ≤ line + s .p
+  unfolding productsFrom
+  products-line w = lines-line _ (s .p) 0 _
 
-pub accounts-line : (text : List ℕ) (at line p n : ℕ) (w : List ℤ) → accountsFrom text at line p n w .line ≤ line + n
-unfolding accountsFrom
-accounts-line text at line p n w = lines-line _ n 0 _
+  pub accounts-line : (w : List ℤ) → accountsFrom text at line s w .line ≤ line + s .n
+  unfolding accountsFrom
+  accounts-line w = lines-line _ (s .n) 0 _
 
-pub positions-line : (text : List ℕ) (at line n p m : ℕ) (s : Stated) → positionsFrom text at line n p m s .line ≤ line + m
-unfolding positionsFrom
-positions-line text at line n p m s = lines-line _ m 0 _
+  pub positions-line : (m : ℕ) (sofar : Stated) → positionsFrom text at line s m sofar .line ≤ line + m
+  unfolding positionsFrom
+  positions-line m sofar = lines-line _ m 0 _
 
 -- products, accounts and positions
 module _ (text : List ℕ) (c : Contents) where
+  abbrev s : Shape
+  s = ledgerShape c
+
   pub start-line : startOf text c .line ≤ c .line + c .products + c .accounts + c .positions
   start-line =
-      let n = c .accounts in
-      let p = c .products in
-      let products = productsFrom text (c .at) (c .line) p (freshWords n p) in
-      let accounts = accountsFrom text (products .at) (products .line) p n (products .held) in
-      omega (arith, products-line text (c .at) (c .line) p (freshWords n p), accounts-line text (products .at) (products .line) p n (products .held), positions-line text (accounts .at) (accounts .line) n p (c .positions) (record { words = accounts .held; marks = noMarks }))
+      let products = productsFrom text (c .at) (c .line) s (freshWords s) in
+      let accounts = accountsFrom text (products .at) (products .line) s (products .held) in
+      let one = products-line text (c .at) (c .line) s (freshWords s) in
+      let two = accounts-line text (products .at) (products .line) s (products .held) in
+      omega (arith, positions-line text (accounts .at) (accounts .line) s (c .positions) (record { words = accounts .held; marks = noMarks }))
 
-  module _ (w0 w1 w2 w3 : List ℤ) (m0 : List ℕ) (A B D : LineStart) (e0 : w0 ≡ freshWords (c .accounts) (c .products)) (em : m0 ≡ noMarks) (eA : A ≡ lineStartOf (productsFrom text (c .at) (c .line) (c .products) w0)) (e1 : w1 ≡ productsFrom text (c .at) (c .line) (c .products) w0 .held) (eB : B ≡ lineStartOf (accountsFrom text (A .at) (A .line) (c .products) (c .accounts) w1)) (e2 : w2 ≡ accountsFrom text (A .at) (A .line) (c .products) (c .accounts) w1 .held) (eD : D ≡ lineStartOf (positionsFrom text (B .at) (B .line) (c .accounts) (c .products) (c .positions) (record { words = w2; marks = m0 }))) (e3 : w3 ≡ positionsFrom text (B .at) (B .line) (c .accounts) (c .products) (c .positions) (record { words = w2; marks = m0 }) .held .words) where
-    pub start-is : (D ≡ lineStartOf (startOf text c)) × (w3 ≡ startOf text c .held .words)
-    start-is = (rw (eD, e2, eB, e1, eA, e0, em) refl, rw (e3, e2, eB, e1, eA, e0, em) refl)
+  module _ (w0 w1 w2 : List ℤ) (m0 : List ℕ) (A B : LineStart) (e0 : w0 ≡ freshWords s) (em : m0 ≡ noMarks)
+      (eA : A ≡ lineStartOf (productsFrom text (c .at) (c .line) s w0)) (e1 : w1 ≡ productsFrom text (c .at) (c .line) s w0 .held)
+      (eB : B ≡ lineStartOf (accountsFrom text (A .at) (A .line) s w1)) (e2 : w2 ≡ accountsFrom text (A .at) (A .line) s w1 .held) where
+    pub start-is : {D : LineStart} {w3 : List ℤ} {m3 : List ℕ} → AllPositioned (positionsFrom text (B .at) (B .line) s (c .positions) (record { words = w2; marks = m0 })) D w3 m3
+        → (D ≡ lineStartOf (startOf text c)) × (w3 ≡ startOf text c .held .words)
+    start-is r = (rw (r .place-is, e2, eB, e1, eA, e0, em) refl, rw (r .words-are, e2, eB, e1, eA, e0, em) refl)
 
   -- and the calls
   pub bodies-are : (w : List ℤ) (D E : LineStart) (end : ℕ) → D ≡ lineStartOf (startOf text c) → w ≡ startOf text c .held .words → E ≡ lineStartOf (callsFrom text (D .at) (D .line) (c .products) (c .calls)) → end ≡ ended text (E .at) → Bodied text c (record { at = end; line = E .line; «calls_at» = D .at }) w

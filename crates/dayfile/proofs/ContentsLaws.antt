@@ -6,10 +6,11 @@ use Prim.Native.Nat.{ℕ, suc, _+_, _≤_}
 use native.Mathlib.Omega.{arith}
 use lib.Dec.{eqb}
 use lib.ListN.{length}
+use Rattle.places.specs.Act.{mostAccounts, mostProducts}
 use Rattle.lines.specs.Bytes.{bytes}
 use Rattle.lines.specs.Lines.{lost, lineFeed, past, fieldAt, firstLost}
 use Rattle.dayfile.specs.InsideDayfile.{Modest}
-use Rattle.dayfile.specs.Table.{mostProducts, mostAccounts, mostPositions, mostCalls, countLine, pastHeader, productsCount, accountsCount, positionsCount, callsCount, pastEnd, tableOf, contentsOf}
+use Rattle.dayfile.specs.Table.{mostPositions, mostCalls, countLine, pastHeader, productsCount, accountsCount, positionsCount, callsCount, pastEnd, tableOf, contentsOf}
 use Rattle.dayfile.specs.declared.Counted.{Counted}
 use Rattle.dayfile.specs.declared.Contents.{Contents}
 use Rattle.dayfile.proofs.DayLaws.{count-most}

@@ -1,39 +1,27 @@
--- Laws of the ledger's words, of counts and of calls. Assumes nothing.
+-- Laws of calls, of counts and of marks. Assumes nothing.
 use mathlib.Core.Path.{_≡_, refl, sym, _∙_, subst}
 use mathlib.Core.Bool.{Bool, true, false, true≢false, cond}
 use mathlib.Core.List.{List, _∷_}
 use Prim.Native.Nat.{ℕ, zero, suc, _+_, _*_, _-_, _≤_, _<_, zero-le}
-use native.Mathlib.Numerals.{add-one}
-use native.Mathlib.Nat.{not-suc-le-zero, zero-mul, suc-mul, mul-le-mul, mul-le-mul-right, lt-of-not-le}
+use native.Mathlib.Nat.{not-suc-le-zero, mul-le-mul, lt-of-not-le}
 use native.Mathlib.Omega.{arith}
-use borrow.Author.Tests.{lt-ltb, le-ltb, ltb-true, ltb-false}
+use borrow.Author.Tests.{lt-ltb, le-ltb, ltb-false}
 use lib.Dec.{ltb}
 use lib.IntN.{ℤ, pos, negsuc, natAbs}
 use lib.Signed.{ltZ}
 use lib.ListN.{length, drop, getD, List·getD-eq-default}
 use lib.Seq.{getD-drop, drop-drop}
 use Rattle.whole.specs.Counting.{figureAt}
+use Rattle.places.specs.declared.Shape.{Shape}
+use Rattle.places.specs.Act.{mostAccounts, mostProducts, mostHeld}
 use Rattle.lines.specs.Bytes.{bytes}
 use Rattle.dayfile.specs.CallLines.{gap, figuresOf, mostFigures, column}
-use Rattle.dayfile.specs.Sections.{isOneOf}
 use Rattle.dayfile.specs.Table.{noCount, countOf}
-use Rattle.dayfile.specs.Words.{width, accountWord, lengthOf, positionWord}
 
 -- ---- calls
 pub gap-more : (k : ℕ) → (k ≡ 0 → ⊥) → bytes " " ≡ gap k
 gap-more zero h = absurd (h refl)
 gap-more (suc k) h = refl
-
--- ---- the ledger's words
-pub account-next : (p a : ℕ) → accountWord p a + width p ≡ accountWord p (a + 1)
-account-next p a = rw (add-one a) (omega (arith, suc-mul a (width p)))
-
-pub account-first : (p : ℕ) → 4 + p * 5 ≡ accountWord p 0
-account-first p = omega (arith, zero-mul (width p))
-
--- an account below the count has its words below the list's end
-pub account-inside : (p a n : ℕ) → a < n → accountWord p a + width p ≤ accountWord p n
-account-inside p a n h = omega (arith, suc-mul a (width p), mul-le-mul-right (width p) h)
 
 -- a byte that begins a call is a byte of the text
 no-call : (p : ℕ) → figuresOf p 0 ≤ mostFigures → ⊥
@@ -43,24 +31,7 @@ no-call p h = omega arith
 pub call-inside : (text : List ℕ) (p at : ℕ) → figuresOf p (getD text at 0) ≤ mostFigures → at < length text
 call-inside text p at h = lt-of-not-le (λ l. no-call p (subst (λ (b : ℕ). figuresOf p b ≤ mostFigures) (List·getD-eq-default text 0 l) h))
 
--- ---- numbers of accounts and products, counts
-module _ (n k : ℕ) where
-  pub one-of-low : (v : ℤ) → ltZ v (pos 0) ≡ true → false ≡ isOneOf n v
-  one-of-low (pos m) h = absurd (true≢false (sym h ∙ le-ltb m 0 zero-le))
-  one-of-low (negsuc m) h = refl
-
-  pub one-of-in : (v : ℤ) → ltZ v (pos 0) ≡ false → k ≡ natAbs v → k < n → true ≡ isOneOf n v
-  one-of-in (pos m) h e l = sym (lt-ltb m n (omega (arith, e)))
-  one-of-in (negsuc m) h e l = absurd (true≢false h)
-
-  pub one-of-out : (v : ℤ) → ltZ v (pos 0) ≡ false → k ≡ natAbs v → n ≤ k → false ≡ isOneOf n v
-  one-of-out (pos m) h e l = sym (le-ltb m n (omega (arith, e)))
-  one-of-out (negsuc m) h e l = absurd (true≢false h)
-
-pub one-of-below : (n : ℕ) (v : ℤ) → isOneOf n v ≡ true → natAbs v < n
-one-of-below n (pos m) h = ltb-true m n h
-one-of-below n (negsuc m) h = absurd (true≢false (sym h))
-
+-- ---- counts
 module _ (low high next k : ℕ) where
   pub count-low : (v : ℤ) → ltZ v (pos 0) ≡ true → noCount ≡ countOf low high next v
   count-low (pos m) h = absurd (true≢false (sym h ∙ le-ltb m 0 zero-le))
@@ -88,11 +59,9 @@ count-most low high next (pos m) = count-cases (ltb m low) (ltb high m) refl
     count-cases false false e = ltb-false high m e
 count-most low high next (negsuc m) = zero-le
 
-pub mark-inside : (n p a j : ℕ) → n ≤ 64 → p ≤ 16 → a < n → j < p → a * p + j < 1024
-mark-inside n p a j hn hp ha hj = omega (arith, mul-le-mul {n₁ = a} {m₁ = p} {n₂ = 63} {m₂ = 16} (omega arith) hp)
-
-pub position-inside : (n p a j : ℕ) → a < n → j < p → positionWord p a j + 1 < lengthOf n p
-position-inside n p a j ha hj = omega (arith, account-inside p a n ha)
+-- ---- marks: each position of a ledger has its own
+pub mark-inside : (s : Shape) (a j : ℕ) → s .n ≤ mostAccounts → s .p ≤ mostProducts → a < s .n → j < s .p → a * s .p + j < mostHeld
+mark-inside s a j hn hp ha hj = omega (arith, mul-le-mul {n₁ = a} {m₁ = s .p} {n₂ = mostAccounts - 1} {m₂ = mostProducts} (omega arith) hp)
 
 -- ---- a close's columns
 pub column-more : (v : List ℤ) (k j left : ℕ) → 0 < left → column k left (drop (j * 4) v) ≡ figureAt v (j * 4 + k) ∷ column k (left - 1) (drop ((j + 1) * 4) v)

@@ -1,4 +1,4 @@
--- Laws: of the ledger's words, of counts and of calls (`DayLaws`), of a position's line (`PositionLaws`), of the table of contents
+-- Laws: of calls, of counts and of marks (`DayLaws`), of a position's line (`PositionLaws`), of the table of contents
 -- (`ContentsLaws`), of the bodies (`BodyLaws`) and their first words (`HeadLaws`). Who is lost stays lost (`LostLaws`).
 -- For the walks over the view: its type (`View`), a call (`CallStep`), a thin function (`Thin`), the calls in a row above them (`Reading`).
 pub mod DayLaws

@@ -8,6 +8,7 @@ use lib.Dec.{ltb, eqb}
 use lib.IntN.{ℤ, pos}
 use lib.ListN.{getD, drop}
 use Rattle.whole.specs.Counting.{figureAt}
+use Rattle.places.specs.Act.{mostProducts}
 use Rattle.lines.specs.Bytes.{bytes}
 use Rattle.lines.specs.Lines.{lost, past, FiguresRead, figuresAt, Line, Stand, lines}
 
@@ -22,9 +23,9 @@ pub data Call : Type 0 where
   close : (prices weeks8 weeks104 lags : List ℤ) → Call
   none : Call
 
--- the most figures that a call has: a close of 16 products
+-- the most figures that a call has: a close of the most products
 abbrev pub mostFigures : ℕ
-mostFigures = 64
+mostFigures = mostProducts * 4
 
 -- how many figures follow a call's letter; one more than the most behind a byte that begins no call
 unfoldable pub figuresOf : (p letter : ℕ) → ℕ
@@ -35,7 +36,7 @@ figuresOf p letter =
     (cond (eqb letter (code "B")) 0
     (cond (eqb letter (code "S")) 0
     (cond (eqb letter (code "T")) 5
-    (cond (eqb letter (code "C")) (p * 4) 65))))))
+    (cond (eqb letter (code "C")) (p * 4) (mostFigures + 1)))))))
 
 -- between the letter and its figures: a space, or the line's end where there are none
 abbrev pub gap : ℕ → List ℕ

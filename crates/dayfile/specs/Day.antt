@@ -5,17 +5,16 @@ use Prim.Native.Nat.{ℕ}
 use lib.Dec.{eqb}
 use lib.IntN.{ℤ}
 use lib.ListN.{length}
+use Rattle.places.specs.declared.Shape.{Shape}
 use Rattle.lines.specs.Lines.{lost, Stand}
 use Rattle.dayfile.specs.CallLines.{Call, callsFrom, callsAt}
-use Rattle.dayfile.specs.Sections.{productsFrom, accountsFrom, noMarks, Stated, positionsFrom}
-use Rattle.dayfile.specs.Table.{contentsOf}
-use Rattle.dayfile.specs.Words.{freshWords}
+use Rattle.dayfile.specs.Sections.{freshWords, productsFrom, accountsFrom, noMarks, Stated, positionsFrom}
+use Rattle.dayfile.specs.Table.{contentsOf, ledgerShape}
 use Rattle.dayfile.specs.declared.Contents.{Contents}
 
--- a ledger's words and the calls on it; the place behind the last call, or lost; the number of the line there, or of the bad line
+-- a ledger's shape and words, and the calls on it; the place behind the last call, or lost; the number of the line there, or of the bad line
 pub record Day : Type 0 where
-  pub accounts : ℕ
-  pub products : ℕ
+  pub shape : Shape
   pub words : List ℤ
   pub calls : List Call
   pub at : ℕ
@@ -28,11 +27,10 @@ ended text at = cond (eqb at (length text)) at lost
 -- products, accounts and positions in a row, each from where the one before it ended
 abbrev pub startOf : List ℕ → Contents → Stand Stated
 startOf text c =
-    let n = c .accounts in
-    let p = c .products in
-    let products = productsFrom text (c .at) (c .line) p (freshWords n p) in
-    let accounts = accountsFrom text (products .at) (products .line) p n (products .held) in
-    positionsFrom text (accounts .at) (accounts .line) n p (c .positions) (record { words = accounts .held; marks = noMarks })
+    let s = ledgerShape c in
+    let products = productsFrom text (c .at) (c .line) s (freshWords s) in
+    let accounts = accountsFrom text (products .at) (products .line) s (products .held) in
+    positionsFrom text (accounts .at) (accounts .line) s (c .positions) (record { words = accounts .held; marks = noMarks })
 
 -- and the calls. Nothing is done before all of it is read
 unfoldable pub bodiesOf : List ℕ → Contents → Day
@@ -40,8 +38,7 @@ bodiesOf text c =
     let start = startOf text c in
     let calls = callsFrom text (start .at) (start .line) (c .products) (c .calls) in
     record {
-      accounts = c .accounts;
-      products = c .products;
+      shape = ledgerShape c;
       words = start .held .words;
       calls = callsAt text (c .products) (start .at) (c .calls);
       at = ended text (calls .at);

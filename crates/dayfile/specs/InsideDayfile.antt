@@ -6,10 +6,14 @@ use mathlib.Core.List.{List}
 use Prim.Native.Nat.{ℕ, _≤_}
 use lib.Dec.{ltb}
 use lib.IntN.{ℤ}
-use Rattle.lines.specs.Lines.{Line}
+use Rattle.places.specs.declared.Shape.{Shape}
+use Rattle.places.specs.Act.{mostAccounts, mostProducts}
+use Rattle.lines.specs.Lines.{Line, Stand, lineStartOf}
+use Rattle.lines.specs.declared.LineStart.{LineStart}
 use Rattle.dayfile.specs.CallLines.{mostFigures, figuresOf}
 use Rattle.dayfile.specs.Day.{startOf, bodiesOf}
 use Rattle.dayfile.specs.Sections.{Stated, stated}
+use Rattle.dayfile.specs.Table.{mostPositions, mostCalls}
 use Rattle.dayfile.specs.declared.Contents.{Contents}
 use Rattle.dayfile.specs.declared.Bodies.{Bodies}
 
@@ -19,8 +23,14 @@ pub record Positioned (l : Line Stated) (next : ℕ) (words : List ℤ) (marks :
   pub words-are : words ≡ l .held .words
   pub marks-are : marks ≡ l .held .marks
 
-abbrev pub Statement : ℕ → ℕ → ℕ → ℤ → ℤ → ℕ → List ℤ → List ℕ → ℕ → List ℤ → List ℕ → Type 0
-Statement p a j lots book next words marks r words′ marks′ = Positioned (stated p a j lots book next (record { words = words; marks = marks })) r words′ marks′
+abbrev pub Statement : Shape → ℕ → ℕ → ℤ → ℤ → ℕ → List ℤ → List ℕ → ℕ → List ℤ → List ℕ → Type 0
+Statement s a j q b next words marks r words′ marks′ = Positioned (stated s a j q b next (record { words = words; marks = marks })) r words′ marks′
+
+-- what the lines of all positions gave, as a place and two lists
+pub record AllPositioned (e : Stand Stated) (r : LineStart) (words : List ℤ) (marks : List ℕ) : Type 0 where
+  pub place-is : r ≡ lineStartOf e
+  pub words-are : words ≡ e .held .words
+  pub marks-are : marks ≡ e .held .marks
 
 -- how many figures a call's line gave
 unfoldable pub givenOf : ℕ → ℕ → ℕ
@@ -28,10 +38,10 @@ givenOf p letter = cond (ltb mostFigures (figuresOf p letter)) 0 (figuresOf p le
 
 -- what the counts of a table of contents keep to
 pub record Modest (c : Contents) : Type 0 where
-  pub products-few : c .products ≤ 16
-  pub accounts-few : c .accounts ≤ 64
-  pub positions-few : c .positions ≤ 9223372036854775807
-  pub calls-few : c .calls ≤ 1000
+  pub products-few : c .products ≤ mostProducts
+  pub accounts-few : c .accounts ≤ mostAccounts
+  pub positions-few : c .positions ≤ mostPositions
+  pub calls-few : c .calls ≤ mostCalls
   pub line-low : c .line ≤ 7
 
 -- what reading the bodies gave, as numbers and lists

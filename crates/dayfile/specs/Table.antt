@@ -5,18 +5,14 @@ use mathlib.Core.List.{List, [], _∷_}
 use Prim.Native.Nat.{ℕ}
 use lib.Dec.{ltb}
 use lib.IntN.{ℤ, pos, negsuc}
+use Rattle.places.specs.declared.Shape.{Shape}
+use Rattle.places.specs.Act.{mostAccounts, mostProducts}
 use Rattle.lines.specs.Bytes.{bytes}
 use Rattle.lines.specs.Lines.{lineFeed, lost, past, fieldAt, firstLost}
 use Rattle.dayfile.specs.declared.Counted.{Counted}
 use Rattle.dayfile.specs.declared.Contents.{Contents}
 
--- 01: "accounts n, products p 1..64, 1..16", "calls 0..1,000, positions 0 or more"; a number past signed 64 bits is bad
-abbrev pub mostProducts : ℕ
-mostProducts = 16
-
-abbrev pub mostAccounts : ℕ
-mostAccounts = 64
-
+-- 01: "calls 0..1,000, positions 0 or more"; a number past signed 64 bits is bad. Accounts and products are bounded as in the ledger's words
 abbrev pub mostPositions : ℕ
 mostPositions = 9223372036854775807
 
@@ -77,3 +73,7 @@ contentsOf text =
     let c = callsCount text (m .next) in
     let end = pastEnd text (c .next) in
     tableOf first p n m c end
+
+-- the shape of the ledger that a table announces
+abbrev pub ledgerShape : Contents → Shape
+ledgerShape c = record { n = c .accounts; p = c .products }

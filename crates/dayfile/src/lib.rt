@@ -6,6 +6,7 @@ mod sections;
 
 use lines::LOST;
 use lines::LineStart;
+use places::Shape;
 use reader::Reader;
 ghost use mathlib.Core.Path.{_≡_};
 ghost use mathlib.Core.List.{_∷_, []};
@@ -14,13 +15,21 @@ ghost use lib.IntN.{pos};
 ghost use lib.ListN.{length, replicate};
 ghost use lib.Seq.{sets};
 ghost use Rattle.whole.specs.Counting.{figureAt};
+ghost use Rattle.places.specs.Place.{wordsOf};
+ghost use Rattle.places.specs.Act.{mostProducts};
 ghost use Rattle.lines.specs.Lines.{past, lineStartOf, firstLost};
-ghost use Rattle.dayfile.specs.CallLines.{figuresOf, gap, callAt, callsFrom, column};
+ghost use Rattle.dayfile.specs.CallLines.{mostFigures, figuresOf, gap, callAt, callsFrom, column};
 ghost use Rattle.dayfile.specs.Day.{ended, startOf};
 ghost use Rattle.dayfile.specs.InsideDayfile.{givenOf, Modest, Bodied};
-ghost use Rattle.dayfile.specs.Sections.{isOneOf};
-ghost use Rattle.dayfile.specs.Table.{tableOf, contentsOf};
-ghost use Rattle.dayfile.specs.Words.{lengthOf};
+ghost use Rattle.dayfile.specs.Table.{tableOf, contentsOf, ledgerShape};
+
+// The figures of an account's line: its letter is the kind, and the other words before its positions follow.
+pub const ACCOUNT_FIGURES: usize = places::FIELDS - 1;
+
+// The most figures that a call has: a close of the most products. A byte that begins no call has one more.
+pub const MOST_FIGURES: usize = places::MOST_PRODUCTS * 4;
+
+const NO_CALL: usize = MOST_FIGURES + 1;
 
 // A line of the table of contents: its count, and the next line.
 pub struct Counted {
@@ -103,9 +112,9 @@ pub fn read_contents(text: &[u8]) -> Contents
 
 // ---- calls
 
-// How many figures follow a call's letter; 65, more than any call has, behind a byte that begins no call.
+// How many figures follow a call's letter; more than any call has behind a byte that begins no call.
 pub fn figures_of(p: usize, letter: u8) -> usize
-    requires { ⌜ p ≤ 16 ⌝ }
+    requires { ⌜ p ≤ mostProducts ⌝ }
     ensures { λ r. ⌜ r ≡ figuresOf p letter ⌝ }
 {
     if letter == b'D' {
@@ -129,7 +138,7 @@ pub fn figures_of(p: usize, letter: u8) -> usize
     if letter == b'C' {
         return p * 4;
     }
-    65
+    NO_CALL
 }
 
 // The place behind what stands between a letter and its k figures.
@@ -165,7 +174,7 @@ fn calls(
     p: usize,
     figures: &mut [i64],
 ) -> LineStart
-    requires { ⌜ first + count < 18446744073709551616 ⌝ ∗ ⌜ p ≤ 16 ⌝ ∗ ⌜ 64 ≤ length (now figures) ⌝ }
+    requires { ⌜ first + count < 18446744073709551616 ⌝ ∗ ⌜ p ≤ mostProducts ⌝ ∗ ⌜ mostFigures ≤ length (now figures) ⌝ }
     ensures { λ r. ⌜ r ≡ lineStartOf (callsFrom (now (text .entry)) from first p count) ⌝ }
 {
     let mut at = from;
@@ -185,20 +194,6 @@ fn calls(
 
 // ---- the bodies
 
-// Whether v is the number of one of n accounts or products.
-pub fn is_one_of(v: i64, n: usize) -> bool
-    ensures { λ r. ⌜ r ≡ isOneOf n v ⌝ }
-{
-    if v < 0 {
-        return false;
-    }
-    let k = whole::nat_abs(v) as usize;
-    if k < n {
-        return true;
-    }
-    false
-}
-
 // The text ends behind the last call.
 fn end_of(text: &[u8], at: usize) -> usize
     ensures { λ r. ⌜ r ≡ ended (now (text .entry)) at ⌝ }
@@ -208,29 +203,30 @@ fn end_of(text: &[u8], at: usize) -> usize
 
 // Products, accounts and positions, into words that are all 0.
 fn start_into(text: &[u8], c: Contents, words: &mut [i64]) -> LineStart
-    requires { ⌜ Modest c ⌝ ∗ ⌜ now words ≡ replicate (lengthOf (c .accounts) (c .products)) (pos 0) ⌝ }
+    requires { ⌜ Modest c ⌝ ∗ ⌜ now words ≡ replicate (wordsOf (ledgerShape c)) (pos 0) ⌝ }
     ensures { λ r. ⌜ (r ≡ lineStartOf (startOf (now (text .entry)) c)) × (now (words .exit) ≡ startOf (now (text .entry)) c .held .words) ⌝ }
 {
     let n = c.accounts;
     let p = c.products;
+    let s = Shape { n, p };
     let m = c.positions;
     let at = c.at;
     let line = c.line;
-    words[0] = n as i64;
-    words[1] = p as i64;
-    let a = sections::products(text, at, line, p, words);
+    places::put_head(words, s, places::ACCOUNTS, n as i64);
+    places::put_head(words, s, places::PRODUCTS, p as i64);
+    let a = sections::products(text, at, line, s, words);
     let at2 = a.at;
     let line2 = a.line;
-    let b = sections::accounts(text, at2, line2, n, p, words);
+    let b = sections::accounts(text, at2, line2, s, words);
     let at3 = b.at;
     let line3 = b.line;
-    let mut marks = [0u8; 1024];
-    sections::positions(text, at3, line3, m, n, p, words, &mut marks)
+    let mut marks = [0u8; places::MOST_HELD];
+    sections::positions(text, at3, line3, m, s, words, &mut marks)
 }
 
 // The bodies, into words that are all 0: the place behind the last call and that of the first.
 pub fn bodies_into(text: &[u8], c: Contents, words: &mut [i64]) -> Bodies
-    requires { ⌜ Modest c ⌝ ∗ ⌜ now words ≡ replicate (lengthOf (c .accounts) (c .products)) (pos 0) ⌝ }
+    requires { ⌜ Modest c ⌝ ∗ ⌜ now words ≡ replicate (wordsOf (ledgerShape c)) (pos 0) ⌝ }
     ensures { λ r. ⌜ Bodied (now (text .entry)) c r (now (words .exit)) ⌝ }
 {
     let p = c.products;
@@ -238,7 +234,7 @@ pub fn bodies_into(text: &[u8], c: Contents, words: &mut [i64]) -> Bodies
     let start = start_into(text, c, words);
     let from = start.at;
     let first = start.line;
-    let mut figures = [0i64; 64];
+    let mut figures = [0i64; MOST_FIGURES];
     let e = calls(text, from, first, k, p, &mut figures);
     let at = e.at;
     let line = e.line;
@@ -251,11 +247,11 @@ pub fn bodies_into(text: &[u8], c: Contents, words: &mut [i64]) -> Bodies
 
 // How many figures a call's line gave.
 pub fn given_of(p: usize, letter: u8) -> usize
-    requires { ⌜ p ≤ 16 ⌝ }
-    ensures { λ r. ⌜ (r ≡ givenOf p letter) × (r ≤ 64) ⌝ }
+    requires { ⌜ p ≤ mostProducts ⌝ }
+    ensures { λ r. ⌜ (r ≡ givenOf p letter) × (r ≤ mostFigures) ⌝ }
 {
     let k = figures_of(p, letter);
-    if k > 64 {
+    if k > MOST_FIGURES {
         return 0;
     }
     k
@@ -275,7 +271,7 @@ pub fn figure_at(figures: &[i64], i: usize) -> i64
 
 // Every fourth figure from the k-th on, for p products.
 pub fn column_into(figures: &[i64], k: usize, p: usize, out: &mut [i64])
-    requires { ⌜ k < 4 ⌝ ∗ ⌜ p ≤ 16 ⌝ ∗ ⌜ p ≤ length (now out) ⌝ }
+    requires { ⌜ k < 4 ⌝ ∗ ⌜ p ≤ mostProducts ⌝ ∗ ⌜ p ≤ length (now out) ⌝ }
     ensures { λ _. ⌜ now (out .exit) ≡ sets (now (out .entry)) 0 (column k p (now (figures .entry))) ⌝ }
 {
     let mut j = 0;

@@ -48,13 +48,13 @@ fn header_at(text: &[u8], at: usize) -> usize
 fn products_at(text: &[u8], at: usize) -> Counted
     ensures { λ r. ⌜ r ≡ productsCount (now (text .entry)) at ⌝ }
 {
-    count_line(text, at, b"PRODUCTS ", 1, 16)
+    count_line(text, at, b"PRODUCTS ", 1, places::MOST_PRODUCTS)
 }
 
 fn accounts_at(text: &[u8], at: usize) -> Counted
     ensures { λ r. ⌜ r ≡ accountsCount (now (text .entry)) at ⌝ }
 {
-    count_line(text, at, b"ACCOUNTS ", 1, 64)
+    count_line(text, at, b"ACCOUNTS ", 1, places::MOST_ACCOUNTS)
 }
 
 fn positions_at(text: &[u8], at: usize) -> Counted

@@ -1,16 +1,19 @@
 // The sections of a day file but the calls: products, accounts, positions (01, "The day file and the sheet"). Each writes what its lines state
 // into the ledger's words, up to the first bad line.
-use super::is_one_of;
+use super::ACCOUNT_FIGURES;
 use lines::LOST;
 use lines::LineStart;
+use places::Shape;
 ghost use mathlib.Core.Path.{_≡_};
 ghost use Prim.Native.Nat.{_+_, _*_, _<_, _≤_};
 ghost use lib.ListN.{length};
 ghost use lib.Seq.{sets};
 ghost use Rattle.lines.specs.Lines.{lineStartOf};
-ghost use Rattle.dayfile.specs.InsideDayfile.{Statement, Positioned};
+ghost use Rattle.places.specs.Place.{Has, lots};
+ghost use Rattle.places.specs.Act.{mostHeld};
+ghost use Rattle.places.specs.PlaceLaws.{Sized};
+ghost use Rattle.dayfile.specs.InsideDayfile.{Statement, Positioned, AllPositioned};
 ghost use Rattle.dayfile.specs.Sections.{productFigures, accountFigures, productsFrom, accountsFrom, positionAt, positionsFrom};
-ghost use Rattle.dayfile.specs.Words.{productWord, accountWord, lengthOf, positionWord};
 
 // A product's line: `Y mark price` or `X mark price principal quote`.
 fn product_line(text: &[u8], at: usize, words: &mut [i64], base: usize) -> usize
@@ -25,62 +28,57 @@ fn account_line(text: &[u8], at: usize, words: &mut [i64], base: usize) -> usize
     requires { ⌜ base + 8 ≤ length (now words) ⌝ }
     ensures { λ r. ⌜ (r ≡ accountFigures (now (text .entry)) at .next) × (now (words .exit) ≡ sets (now (words .entry)) base (accountFigures (now (text .entry)) at .values)) ⌝ }
 {
-    lines::kind_line(text, at, b"F ", 7, b"L ", 7, words, base)
+    lines::kind_line(
+        text,
+        at,
+        b"F ",
+        ACCOUNT_FIGURES,
+        b"L ",
+        ACCOUNT_FIGURES,
+        words,
+        base,
+    )
 }
 
 // The products' lines, up to the first bad one.
-pub fn products(
-    text: &[u8],
-    from: usize,
-    first: usize,
-    count: usize,
-    words: &mut [i64],
-) -> LineStart
-    requires { ⌜ first + count < 18446744073709551616 ⌝ ∗ ⌜ productWord count ≤ length (now words) ⌝ }
-    ensures { λ r. ⌜ (r ≡ lineStartOf (productsFrom (now (text .entry)) from first count (now (words .entry)))) × (now (words .exit) ≡ productsFrom (now (text .entry)) from first count (now (words .entry)) .held) ⌝ }
+pub fn products(text: &[u8], from: usize, first: usize, s: Shape, words: &mut [i64]) -> LineStart
+    requires { ⌜ first + s .p < 18446744073709551616 ⌝ ∗ ⌜ Sized s (now words) ⌝ }
+    ensures { λ r. ⌜ (r ≡ lineStartOf (productsFrom (now (text .entry)) from first s (now (words .entry)))) × (now (words .exit) ≡ productsFrom (now (text .entry)) from first s (now (words .entry)) .held) ⌝ }
 {
+    let count = s.p;
     let mut at = from;
     let mut line = first;
-    let mut base = 4;
     let mut j = 0;
     while j < count {
+        let base = places::prod_at(s, j, places::PRODUCT_KIND);
         let next = product_line(text, at, words, base);
         if next == LOST {
             return LineStart { at: next, line };
         }
         at = next;
         line += 1;
-        base += 5;
         j += 1;
     }
     LineStart { at, line }
 }
 
 // The accounts' lines, up to the first bad one.
-pub fn accounts(
-    text: &[u8],
-    from: usize,
-    first: usize,
-    count: usize,
-    p: usize,
-    words: &mut [i64],
-) -> LineStart
-    requires { ⌜ first + count < 18446744073709551616 ⌝ ∗ ⌜ p ≤ 16 ⌝ ∗ ⌜ accountWord p count ≤ length (now words) ⌝ }
-    ensures { λ r. ⌜ (r ≡ lineStartOf (accountsFrom (now (text .entry)) from first p count (now (words .entry)))) × (now (words .exit) ≡ accountsFrom (now (text .entry)) from first p count (now (words .entry)) .held) ⌝ }
+pub fn accounts(text: &[u8], from: usize, first: usize, s: Shape, words: &mut [i64]) -> LineStart
+    requires { ⌜ first + s .n < 18446744073709551616 ⌝ ∗ ⌜ Sized s (now words) ⌝ }
+    ensures { λ r. ⌜ (r ≡ lineStartOf (accountsFrom (now (text .entry)) from first s (now (words .entry)))) × (now (words .exit) ≡ accountsFrom (now (text .entry)) from first s (now (words .entry)) .held) ⌝ }
 {
-    let wide = 8 + p * 2;
+    let count = s.n;
     let mut at = from;
     let mut line = first;
-    let mut base = 4 + p * 5;
     let mut a = 0;
     while a < count {
+        let base = places::acct_at(s, a, places::KIND);
         let next = account_line(text, at, words, base);
         if next == LOST {
             return LineStart { at: next, line };
         }
         at = next;
         line += 1;
-        base += wide;
         a += 1;
     }
     LineStart { at, line }
@@ -90,24 +88,24 @@ pub fn accounts(
 fn state_position(
     words: &mut [i64],
     marks: &mut [u8],
-    p: usize,
+    s: Shape,
     a: usize,
     j: usize,
-    lots: i64,
-    book: i64,
+    q: i64,
+    b: i64,
     next: usize,
 ) -> usize
-    requires { ⌜ a * p + j < length (now marks) ⌝ ∗ ⌜ positionWord p a j + 1 < length (now words) ⌝ }
-    ensures { λ r. ⌜ Statement p a j lots book next (now (words .entry)) (now (marks .entry)) r (now (words .exit)) (now (marks .exit)) ⌝ }
+    requires { ⌜ Sized s (now words) ⌝ ∗ ⌜ Has s (lots a j) ⌝ ∗ ⌜ a * s .p + j < length (now marks) ⌝ }
+    ensures { λ r. ⌜ Statement s a j q b next (now (words .entry)) (now (marks .entry)) r (now (words .exit)) (now (marks .exit)) ⌝ }
 {
+    let p = s.p;
     let k = a * p + j;
     if marks[k] != 0 {
         return LOST;
     }
     marks[k] = 1;
-    let at = 4 + p * 5 + a * (8 + p * 2) + 8 + j * 2;
-    words[at] = lots;
-    words[at + 1] = book;
+    places::put_held(words, s, a, j, places::LOTS, q);
+    places::put_held(words, s, a, j, places::BOOK, b);
     next
 }
 
@@ -120,8 +118,8 @@ fn position_line(
     words: &mut [i64],
     marks: &mut [u8],
 ) -> usize
-    requires { ⌜ n ≤ 64 ⌝ ∗ ⌜ p ≤ 16 ⌝ ∗ ⌜ lengthOf n p ≤ length (now words) ⌝ ∗ ⌜ 1024 ≤ length (now marks) ⌝ }
-    ensures { λ r. ⌜ Positioned (positionAt (now (text .entry)) n p at (record { words = now (words .entry); marks = now (marks .entry) })) r (now (words .exit)) (now (marks .exit)) ⌝ }
+    requires { ⌜ Sized (record { n = n; p = p }) (now words) ⌝ ∗ ⌜ mostHeld ≤ length (now marks) ⌝ }
+    ensures { λ r. ⌜ Positioned (positionAt (now (text .entry)) (record { n = n; p = p }) at (record { words = now (words .entry); marks = now (marks .entry) })) r (now (words .exit)) (now (marks .exit)) ⌝ }
 {
     let a = lines::field_at(text, at, b' ');
     let at2 = a.next;
@@ -132,15 +130,15 @@ fn position_line(
     let book = lines::field_at(text, at4, b'\n');
     let account = a.value;
     let product = j.value;
-    if is_one_of(account, n) {
-        if is_one_of(product, p) {
+    if whole::is_one_of(account, n) {
+        if whole::is_one_of(product, p) {
             let q = lots.value;
             let b = book.value;
             let next = book.next;
             return state_position(
                 words,
                 marks,
-                p,
+                Shape { n, p },
                 whole::nat_abs(account) as usize,
                 whole::nat_abs(product) as usize,
                 q,
@@ -159,14 +157,15 @@ pub fn positions(
     from: usize,
     first: usize,
     count: usize,
-    n: usize,
-    p: usize,
+    s: Shape,
     words: &mut [i64],
     marks: &mut [u8],
 ) -> LineStart
-    requires { ⌜ first + count < 18446744073709551616 ⌝ ∗ ⌜ n ≤ 64 ⌝ ∗ ⌜ p ≤ 16 ⌝ ∗ ⌜ lengthOf n p ≤ length (now words) ⌝ ∗ ⌜ 1024 ≤ length (now marks) ⌝ }
-    ensures { λ r. ⌜ (r ≡ lineStartOf (positionsFrom (now (text .entry)) from first n p count (record { words = now (words .entry); marks = now (marks .entry) }))) × (now (words .exit) ≡ positionsFrom (now (text .entry)) from first n p count (record { words = now (words .entry); marks = now (marks .entry) }) .held .words) ⌝ }
+    requires { ⌜ first + count < 18446744073709551616 ⌝ ∗ ⌜ Sized s (now words) ⌝ ∗ ⌜ mostHeld ≤ length (now marks) ⌝ }
+    ensures { λ r. ⌜ AllPositioned (positionsFrom (now (text .entry)) from first s count (record { words = now (words .entry); marks = now (marks .entry) })) r (now (words .exit)) (now (marks .exit)) ⌝ }
 {
+    let n = s.n;
+    let p = s.p;
     let mut at = from;
     let mut line = first;
     let mut i = 0;

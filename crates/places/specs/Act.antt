@@ -3,7 +3,7 @@
 -- the test `ok`, the ledger's own. What a reader believes; the laws are in `ActLaws`.
 use mathlib.Core.List.{List}
 use mathlib.Core.Bool.{Bool, cond, _&&_}
-use Prim.Native.Nat.{ℕ}
+use Prim.Native.Nat.{ℕ, _*_}
 use lib.Dec.{ltb, eqb}
 use lib.IntN.{ℤ, pos, natAbs}
 use lib.ListN.{length, getD}
@@ -23,6 +23,13 @@ mostAccounts = 64
 
 abbrev pub mostProducts : ℕ
 mostProducts = 16
+
+-- the words and the positions of the largest ledger
+abbrev pub mostWords : ℕ
+mostWords = wordsOf (record { n = mostAccounts; p = mostProducts })
+
+abbrev pub mostHeld : ℕ
+mostHeld = mostAccounts * mostProducts
 
 abbrev pub shapeOf : List ℤ → Shape
 shapeOf W = record { n = statedCount mostAccounts (getD W 0 (pos 0)); p = statedCount mostProducts (getD W 1 (pos 0)) }

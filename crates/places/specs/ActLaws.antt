@@ -14,7 +14,7 @@ use Rattle.whole.specs.Tests.{both, none, in-range}
 use Rattle.places.specs.declared.Shape.{Shape}
 use Rattle.places.specs.Place.{wordsOf, Layout, Put, get, puts}
 use Rattle.places.specs.PlaceLaws.{Sized}
-use Rattle.places.specs.Act.{statedCount, shapeOf, shapeOk, Test, soundBy, Act, Rule, finish, performBy}
+use Rattle.places.specs.Act.{statedCount, mostAccounts, mostProducts, shapeOf, shapeOk, Test, soundBy, Act, Rule, finish, performBy}
 
 pub count-le : (b : ℕ) (z : ℤ) → statedCount b z ≤ b
 count-le b z = go (between (pos 1) (pos b) z) refl
@@ -89,7 +89,11 @@ module _ (ok : Test) (L : Layout) where
       record {
         some = ltb-true 0 (shapeOf W .n) (m .0);
         some′ = ltb-true 0 (shapeOf W .p) (m .1);
-        sized = record { few = count-le 64 (getD W 0 (pos 0)); few′ = count-le 16 (getD W 1 (pos 0)); sized = eqb-true (length W) (wordsOf (shapeOf W)) (k .1) };
+        sized = record {
+          few = count-le mostAccounts (getD W 0 (pos 0));
+          few′ = count-le mostProducts (getD W 1 (pos 0));
+          sized = eqb-true (length W) (wordsOf (shapeOf W)) (k .1);
+        };
         shaped = refl;
         places = h .1;
       }

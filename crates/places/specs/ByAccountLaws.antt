@@ -1,14 +1,19 @@
 -- The laws of the layout by account: an account's words stand in a row, each place of a shape has a word inside the list, and no two places share
 -- one. Assumes nothing.
 use mathlib.Core.Path.{_≡_, sym, ap, _∙_}
-use Prim.Native.Nat.{ℕ, _+_, _*_, _/_, _%_, _<_}
+use Prim.Native.Nat.{ℕ, _+_, _*_, _/_, _%_, _<_, _≤_}
+use native.Mathlib.Nat.{mul-le-mul}
 use native.Mathlib.Omega.{arith}
 use lib.Arith.{digits-lt, digits-div, digits-mod}
 use Rattle.places.specs.declared.Shape.{Shape}
 use Rattle.places.specs.Place.{Place, heads, productFields, fields, heldFields, head, prod, acct, held, Has, wordsOf}
+use Rattle.places.specs.Act.{mostAccounts, mostProducts, mostWords}
 use Rattle.places.specs.ByAccountWords.{recordSize, recordAt, at}
 
--- an account's words in a row
+-- a product's words in a row, and an account's
+pub product-row : (s : Shape) (j f : ℕ) → at s (prod j f) ≡ at s (prod j 0) + f
+product-row s j f = omega arith
+
 pub row : (s : Shape) (a f : ℕ) → at s (acct a f) ≡ at s (acct a 0) + f
 row s a f = omega arith
 
@@ -17,6 +22,13 @@ pub same-digits : (b m a f a′ f′ : ℕ) → f < m → f′ < m → b + a * m
 same-digits b m a f a′ f′ h h′ e =
     let d : a * m + f ≡ a′ * m + f′ = omega arith in
     (sym (digits-div a h) ∙ ap (λ x. x / m) d ∙ digits-div a′ h′, sym (digits-mod a h) ∙ ap (λ x. x % m) d ∙ digits-mod a′ h′)
+
+-- the records of a ledger within the paper's bounds, and its words
+pub records-most : (p a : ℕ) → a ≤ mostAccounts → p ≤ mostProducts → a * recordSize p ≤ mostAccounts * recordSize mostProducts
+records-most p a h k = let i : recordSize p ≤ recordSize mostProducts = omega arith in mul-le-mul h i
+
+pub words-most : (s : Shape) → s .n ≤ mostAccounts → s .p ≤ mostProducts → wordsOf s ≤ mostWords
+words-most s h k = omega (arith, records-most (s .p) (s .n) h k)
 
 pub record-inside : (p n a f : ℕ) → a < n → f < recordSize p → recordAt p a + f < heads + productFields * p + n * recordSize p
 record-inside p n a f h k = omega (arith, digits-lt {q = a} {m = n} {r = f} {c = recordSize p} h k)

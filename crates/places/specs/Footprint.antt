@@ -11,7 +11,7 @@ use lib.ListN.{getD}
 use Rattle.places.specs.declared.Shape.{Shape}
 use Rattle.places.specs.Place.{Place, head, Has, View, Layout, Put, get, puts}
 use Rattle.places.specs.PlaceLaws.{Each, each-map, get-puts, puts-comm, length-puts}
-use Rattle.places.specs.Act.{statedCount, shapeOf, Test, soundBy, Act, Rule, finish, performBy}
+use Rattle.places.specs.Act.{statedCount, mostAccounts, mostProducts, shapeOf, Test, soundBy, Act, Rule, finish, performBy}
 use Rattle.places.specs.ActLaws.{sound-again, performed}
 
 -- a set of places that may be put, and a set of places that may be seen; the counts n and p are never put
@@ -78,7 +78,7 @@ module _ (L : Layout) (W : List ℤ) where
 
   -- the counts stay
   pub shape-kept : (F : Footprint) (us : List Put) → Inside s F us → shapeOf (puts L s W us) ≡ s
-  shape-kept F us i d = record { n = statedCount 64 (word 0 (omega arith) d); p = statedCount 16 (word 1 (omega arith) d) }
+  shape-kept F us i d = record { n = statedCount mostAccounts (word 0 (omega arith) d); p = statedCount mostProducts (word 1 (omega arith) d) }
     where
       word : (k : ℕ) → k < 2 → getD (puts L s W us) k (pos 0) ≡ getD W k (pos 0)
       word k b =

@@ -36,6 +36,12 @@ abbrev pub heldFields : ℕ
 heldFields = 2
 
 -- ---- the names that the rules use
+abbrev pub accounts : Place
+accounts = head 0
+
+abbrev pub products : Place
+products = head 1
+
 abbrev pub phase : Place
 phase = head 2
 
@@ -92,10 +98,11 @@ Has s (held a j f) = (a < s .n) × (j < s .p) × (f < heldFields)
 abbrev pub wordsOf : Shape → ℕ
 wordsOf s = heads + productFields * s .p + s .n * (fields + heldFields * s .p)
 
--- A layout gives each place of a shape a word of its own. In each the head's words stand first, and an account's words in a row.
+-- A layout gives each place of a shape a word of its own. In each the head's words stand first, and a product's words and an account's in a row.
 pub record Layout : Type 0 where
   pub at : Shape → Place → ℕ
   pub first : (s : Shape) (k : ℕ) → at s (head k) ≡ k
+  pub product-row : (s : Shape) (j f : ℕ) → at s (prod j f) ≡ at s (prod j 0) + f
   pub row : (s : Shape) (a f : ℕ) → at s (acct a f) ≡ at s (acct a 0) + f
   pub inside : (s : Shape) (q : Place) → Has s q → at s q < wordsOf s
   pub same : (s : Shape) (q r : Place) → Has s q → Has s r → at s q ≡ at s r → q ≡ r

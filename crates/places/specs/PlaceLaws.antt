@@ -1,21 +1,34 @@
 -- The laws of places: what is read after puts, in which order puts may be made, and that a pass is one list of puts. Proved from a
 -- layout's laws alone. Assumes nothing.
-use mathlib.Core.Path.{_≡_, refl, sym, ap, ap₂, _∙_}
+use mathlib.Core.Path.{_≡_, refl, sym, ap, ap₂, subst, _∙_}
 use mathlib.Core.Logic.{_≢_}
 use mathlib.Core.List.{List, [], _∷_, _++_}
-use Prim.Native.Nat.{ℕ, zero, suc, _+_, _<_, _≤_}
+use Prim.Native.Nat.{ℕ, zero, suc, _+_, _-_, _<_, _≤_}
+use native.Mathlib.Nat.{lt-of-not-le}
 use native.Mathlib.Omega.{arith}
 use lib.IntN.{ℤ, pos}
 use lib.ListN.{length, getD, set, length-set}
 use lib.Seq.{getD-set-same, getD-set-other, set-comm}
 use Rattle.places.specs.declared.Shape.{Shape}
-use Rattle.places.specs.Place.{Place, head, acct, fields, Has, wordsOf, Layout, Put, get, put, puts, each}
+use Rattle.places.specs.Act.{mostAccounts, mostProducts}
+use Rattle.places.specs.Place.{Place, head, prod, acct, held, heads, productFields, fields, Has, wordsOf, Layout, Put, get, put, puts, each}
 
 -- a list of as many words as a ledger of this shape has, with the paper's bounds on the counts
 pub record Sized (s : Shape) (W : List ℤ) : Type 0 where
-  pub few : s .n ≤ 64
-  pub few′ : s .p ≤ 16
+  pub few : s .n ≤ mostAccounts
+  pub few′ : s .p ≤ mostProducts
   pub sized : length W ≡ wordsOf s
+
+-- words of the same length are sized alike
+pub sized-as : {s : Shape} {W W′ : List ℤ} → Sized s W → length W′ ≡ length W → Sized s W′
+sized-as z e = record { few = z .few; few′ = z .few′; sized = e ∙ z .sized }
+
+-- a place that is not one of the head's
+abbrev pub Behind : Place → Type 0
+Behind (head k) = ⊥
+Behind (prod j f) = Unit {0}
+Behind (acct a f) = Unit {0}
+Behind (held a j f) = Unit {0}
 
 module _ (L : Layout) (s : Shape) where
   pub get-put-same : (W : List ℤ) (q : Place) (v : ℤ) → length W ≡ wordsOf s → Has s q → get L s (put L s W q v) q ≡ v
@@ -37,6 +50,20 @@ module _ (L : Layout) (s : Shape) where
   pub puts-append : (us vs : List Put) (W : List ℤ) → puts L s W (us ++ vs) ≡ puts L s (puts L s W us) vs
   puts-append [] vs W = refl
   puts-append (u ∷ us) vs W = puts-append us vs (put L s W (u .place) (u .word))
+
+  -- which stands behind the head's words
+  pub past-head : (q : Place) → Has s q → Behind q → heads ≤ L .at s q
+  past-head q h b =
+      let i = L .at s q in
+      let j : heads < suc i = lt-of-not-le (λ l. subst Behind (L .same s q (head i) h l (sym (L .first s i))) b) in
+      omega arith
+
+  -- the words of a product, and those of an account before its positions, are words of the list
+  pub product-inside : (j : ℕ) → j < s .p → L .at s (prod j 0) + productFields ≤ wordsOf s
+  product-inside j h = let last = productFields - 1 in omega (arith, L .product-row s j last, L .inside s (prod j last) (h, omega arith))
+
+  pub account-inside : (a : ℕ) → a < s .n → L .at s (acct a 0) + fields ≤ wordsOf s
+  account-inside a h = let last = fields - 1 in omega (arith, L .row s a last, L .inside s (acct a last) (h, omega arith))
 
   -- a word of the head that the code comes by as a number, as a place
   pub head-word : (W : List ℤ) (k : ℕ) → getD W k (pos 0) ≡ get L s W (head k)

@@ -3,6 +3,7 @@
 ghost use mathlib.Core.Path.{_≡_};
 ghost use Prim.Native.Nat.{_<_, _≤_};
 ghost use Rattle.places.specs.Place.{Has, head, prod, acct, held, get, put, wordsOf};
+ghost use Rattle.places.specs.Act.{mostAccounts, mostProducts};
 ghost use Rattle.places.specs.PlaceLaws.{Sized};
 ghost use Rattle.places.specs.ByAccount.{byAccount};
 
@@ -17,13 +18,30 @@ pub const HEADS: usize = 4;
 
 const PRODUCT_FIELDS: usize = 5;
 
-const FIELDS: usize = 8;
+pub const DUES: usize = 3;
+
+pub const FIRST_DUE: usize = 5;
+
+pub const FIELDS: usize = FIRST_DUE + DUES;
 
 const HELD_FIELDS: usize = 2;
 
-pub const DUES: usize = 3;
+// The largest ledger: its accounts and products, its words, its positions.
+pub const MOST_ACCOUNTS: usize = 64;
+
+pub const MOST_PRODUCTS: usize = 16;
+
+pub const MOST_WORDS: usize = HEADS
+    + PRODUCT_FIELDS * MOST_PRODUCTS
+    + MOST_ACCOUNTS * (FIELDS + HELD_FIELDS * MOST_PRODUCTS);
+
+pub const MOST_HELD: usize = MOST_ACCOUNTS * MOST_PRODUCTS;
 
 // The words by name.
+pub const ACCOUNTS: usize = 0;
+
+pub const PRODUCTS: usize = 1;
+
 pub const PHASE: usize = 2;
 
 pub const HOUSE: usize = 3;
@@ -48,8 +66,6 @@ pub const CAP: usize = 3;
 
 pub const MARGIN: usize = 4;
 
-pub const FIRST_DUE: usize = 5;
-
 pub const LOTS: usize = 0;
 
 pub const BOOK: usize = 1;
@@ -58,7 +74,7 @@ pub const BOOK: usize = 1;
 
 // How many words a ledger has.
 pub fn words_of(s: Shape) -> usize
-    requires { ⌜ (s .n ≤ 64) × (s .p ≤ 16) ⌝ }
+    requires { ⌜ (s .n ≤ mostAccounts) × (s .p ≤ mostProducts) ⌝ }
     ensures { λ r. ⌜ r ≡ wordsOf s ⌝ }
 {
     let n = s.n;
@@ -66,8 +82,8 @@ pub fn words_of(s: Shape) -> usize
     HEADS + PRODUCT_FIELDS * p + n * (FIELDS + HELD_FIELDS * p)
 }
 
-fn prod_at(s: Shape, j: usize, f: usize) -> usize
-    requires { ⌜ (s .n ≤ 64) × (s .p ≤ 16) ⌝ }
+pub fn prod_at(s: Shape, j: usize, f: usize) -> usize
+    requires { ⌜ (s .n ≤ mostAccounts) × (s .p ≤ mostProducts) ⌝ }
     requires { ⌜ Has s (prod j f) ⌝ }
     ensures { λ r. ⌜ (r ≡ byAccount .at s (prod j f)) × (r < wordsOf s) ⌝ }
 {
@@ -75,7 +91,7 @@ fn prod_at(s: Shape, j: usize, f: usize) -> usize
 }
 
 pub fn acct_at(s: Shape, a: usize, f: usize) -> usize
-    requires { ⌜ (s .n ≤ 64) × (s .p ≤ 16) ⌝ }
+    requires { ⌜ (s .n ≤ mostAccounts) × (s .p ≤ mostProducts) ⌝ }
     requires { ⌜ Has s (acct a f) ⌝ }
     ensures { λ r. ⌜ (r ≡ byAccount .at s (acct a f)) × (r < wordsOf s) ⌝ }
 {
@@ -84,7 +100,7 @@ pub fn acct_at(s: Shape, a: usize, f: usize) -> usize
 }
 
 fn held_at(s: Shape, a: usize, j: usize, f: usize) -> usize
-    requires { ⌜ (s .n ≤ 64) × (s .p ≤ 16) ⌝ }
+    requires { ⌜ (s .n ≤ mostAccounts) × (s .p ≤ mostProducts) ⌝ }
     requires { ⌜ Has s (held a j f) ⌝ }
     ensures { λ r. ⌜ (r ≡ byAccount .at s (held a j f)) × (r < wordsOf s) ⌝ }
 {

@@ -9,6 +9,7 @@ use lines::Numeral;
 ghost use mathlib.Core.Path.{_≡_};
 ghost use Prim.Native.Nat.{_+_, _≤_, _<_};
 ghost use lib.ListN.{length};
+ghost use Rattle.places.specs.Act.{mostProducts};
 ghost use Rattle.dayfile.specs.InsideDayfile.{Modest};
 
 // The longest explanation.
@@ -185,13 +186,13 @@ fn place_finding(text: &[u8], at: usize, n: usize, p: usize) -> Finding {
     let next = a.next;
     let j = lines::field_at(text, next, b' ');
     let product = j.value;
-    if !dayfile::is_one_of(account, n) {
+    if !whole::is_one_of(account, n) {
         return Finding {
             fault: Fault::NoAccount,
             figure: 1,
         };
     }
-    if !dayfile::is_one_of(product, p) {
+    if !whole::is_one_of(product, p) {
         return Finding {
             fault: Fault::NoProduct,
             figure: 2,
@@ -210,11 +211,11 @@ fn position_finding(text: &[u8], at: usize, n: usize, p: usize) -> Finding {
 
 // A call: its letter, then its figures. A letter that has none stands alone.
 fn call_finding(text: &[u8], at: usize, p: usize) -> Finding
-    requires { ⌜ p ≤ 16 ⌝ ∗ ⌜ at < length (now text) ⌝ }
+    requires { ⌜ p ≤ mostProducts ⌝ ∗ ⌜ at < length (now text) ⌝ }
 {
     let letter = text[at];
     let k = dayfile::figures_of(p, letter);
-    if k > 64 {
+    if k > dayfile::MOST_FIGURES {
         return about_line(Fault::CallLetter);
     }
     if k == 0 {
@@ -239,7 +240,15 @@ fn body_finding(text: &[u8], c: Contents, at: usize, i: usize) -> Finding
         return letter_finding(text, at, b"Y ", 2, b"X ", 4, Fault::ProductLetter);
     }
     if i - p < n {
-        return letter_finding(text, at, b"F ", 7, b"L ", 7, Fault::AccountLetter);
+        return letter_finding(
+            text,
+            at,
+            b"F ",
+            dayfile::ACCOUNT_FIGURES,
+            b"L ",
+            dayfile::ACCOUNT_FIGURES,
+            Fault::AccountLetter,
+        );
     }
     if i - p - n < m {
         return position_finding(text, at, n, p);

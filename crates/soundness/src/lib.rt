@@ -11,17 +11,17 @@ ghost use Rattle.rules.specs.Account.{accountOk};
 ghost use Rattle.places.specs.Place.{Has, prod, get, due};
 ghost use Rattle.places.specs.PlaceLaws.{Sized};
 ghost use Rattle.places.specs.ByAccount.{byAccount};
-ghost use Rattle.places.specs.Act.{shapeOf, shapeOk};
+ghost use Rattle.places.specs.Act.{mostAccounts, mostProducts, shapeOf, shapeOk};
 ghost use Rattle.soundness.specs.Sound as S;
 ghost use Rattle.soundness.specs.Perform as P;
 use places::Shape;
 use rules::Account;
 use rules::Reply;
 
-// Accounts n 1..64, products p 1..16.
-const MOST_ACCOUNTS: i64 = 64;
+// What the words may state: accounts n 1..64, products p 1..16.
+const MOST_ACCOUNTS: i64 = places::MOST_ACCOUNTS as i64;
 
-const MOST_PRODUCTS: i64 = 16;
+const MOST_PRODUCTS: i64 = places::MOST_PRODUCTS as i64;
 
 pub mod positions;
 pub mod products;
@@ -146,14 +146,14 @@ pub fn shape_of(words: &[i64]) -> Shape
     requires { ⌜ 2 ≤ length (now words) ⌝ }
     ensures { λ r. ⌜ r ≡ shapeOf (now (words .entry)) ⌝ }
 {
-    let n = stated_count(words[0], MOST_ACCOUNTS);
-    let p = stated_count(words[1], MOST_PRODUCTS);
+    let n = stated_count(words[places::ACCOUNTS], MOST_ACCOUNTS);
+    let p = stated_count(words[places::PRODUCTS], MOST_PRODUCTS);
     Shape { n: n, p: p }
 }
 
 // Whether the words have the length of a ledger of their shape, of one account and one product at least.
 fn shape_ok(words: &[i64], s: Shape) -> bool
-    requires { ⌜ (s .n ≤ 64) × (s .p ≤ 16) ⌝ }
+    requires { ⌜ (s .n ≤ mostAccounts) × (s .p ≤ mostProducts) ⌝ }
     ensures { λ r. ⌜ r ≡ shapeOk (now (words .entry)) s ⌝ }
 {
     let n = s.n;

@@ -13,6 +13,7 @@ use Rattle.lines.specs.Print.{badLine}
 use Rattle.lines.proofs.WriteLaws.{wrote-none, wrote-more, wrote-done}
 use Rattle.dayfile.specs.CallLines.{callsAt}
 use Rattle.dayfile.specs.Day.{Day, bodiesOf}
+use Rattle.dayfile.specs.Table.{ledgerShape}
 use Rattle.dayfile.proofs.HeadLaws.{Head, bodies-head}
 use Rattle.places.specs.ByAccount.{byAccount}
 use Rattle.soundness.specs.SoundLaws.{Ledger}
@@ -82,8 +83,10 @@ run-calls-requires c κs =
     let a = lent d .args in
     let m = lent d .pre .0 in
     let w = c .before .before .before .before .put-word in
-    let start : Ledger byAccount (record { n = a .c .accounts; p = a .c .products }) (words d) =
-    opened (a .c .accounts) (a .c .products) (words d) (subst (Head (a .c .accounts) (a .c .products)) (sym (d .before .bodies-into .ensures .words-are)) (bodies-head (a .text .now) (a .c))) (m .accounts-few) (m .products-few)
+    let shape = ledgerShape (a .c) in
+    let stated = subst (Head shape) (sym (d .before .bodies-into .ensures .words-are)) (bodies-head (a .text .now) (a .c)) in
+    let start : Ledger byAccount shape (words d) =
+    opened shape (words d) stated (m .accounts-few) (m .products-few)
     (sym (t .before .is-sound .ensures) ∙ t .if2 .taken) in
     (start, omega (arith, m, w .ensures .0, w .kept .0, lent d .pre .1 .1))
 
@@ -101,7 +104,7 @@ returns-2 c =
     let r = d .before .bodies-into in
     let w = c .before .before .before .before .before .before .before .before .put-word .ensures in
     let k = c .before .before .before .run-calls .ensures in
-    let rest = callsPart theLedger (a .c .accounts) (a .c .products) (callsAt (a .text .now) (a .c .products) (r .result .«calls_at») (a .c .calls)) (words d) in
+    let rest = callsPart theLedger (ledgerShape (a .c)) (callsAt (a .text .now) (a .c .products) (r .result .«calls_at») (a .c .calls)) (words d) in
     let e = good-is theLedger (a .text .now) (a .c) (r .result) (words d) (r .ensures) (none-bad (t .before .before .before)) (judged (t .before) ∙ t .if2 .taken) in
     let w1 = wrote-more (wrote-none (a .out .now) 0 (daySheet theLedger (day d))) (bytes "FXSHEET\n") rest e (w .0) (w .1) in
     wrote-done (wrote-more w1 rest [] (sym (append-nil rest)) (k .0) (k .1)) refl

@@ -1,14 +1,12 @@
--- A word and a line of one number are written in a row.
+-- A word and a line of one number are written in a row. Assumes nothing.
 use mathlib.Core.Path.{refl, sym, _∙_}
 use mathlib.Core.List.{[], _∷_, append-nil}
 use Prim.Native.Nat.{_+_}
-use lib.IntN.{pos}
-use lib.ListN.{length, getD}
+use lib.ListN.{length}
 use lib.Seq.{sets}
-use mir.Syntax.{w64}
-use mir.Val.{SFits}
-use mir.Facts.{toZ-ofZ}
-use Rattle.whole.specs.Whole.{whole, facts, by}
+use Rattle.whole.specs.Signs.{came}
+use Rattle.places.specs.Place.{house, get}
+use Rattle.places.specs.ByAccount.{byAccount}
 use Rattle.lines.specs.Bytes.{bytes}
 use Rattle.lines.specs.Print.{numbersLine}
 use Rattle.lines.proofs.WriteLaws.{wrote-none, wrote-more, wrote-done}
@@ -17,8 +15,8 @@ use borrow.Author.Needs.{needs}
 use Rattle.day.proofs.put_house.Statement.{statement}
 use Rattle.day.proofs.put_house.Tie as tie
 
-shared-slice-copy-out-house : tie.Need-shared-slice-copy-out-house
-shared-slice-copy-out-house c = search needs
+head-word-requires : tie.Need-head-word-requires
+head-word-requires c κs = search needs
 
 slice-aggregate-put-word : tie.Need-slice-aggregate-put-word
 slice-aggregate-put-word c = search needs
@@ -38,12 +36,12 @@ same-length c = search needs
 returns : tie.Need-returns
 returns c =
     let a = c .before .before .before .before .before .before .before .before .before .before .before .before .args in
+    let h = c .before .before .before .before .before .before .before .before .before .before .head-word in
     let w = c .before .before .before .before .before .before .before .put-word in
     let k = c .before .before .put-line in
-    let h : SFits w64 (getD (a .words .now) 3 (pos 0)) = by (search whole depth 20) (omega facts) in
-    let x-is = toZ-ofZ {w = w64} h in
-    let whole = housePart (a .words .now) in
-    let rest = numbersLine (getD (a .words .now) 3 (pos 0) ∷ []) in
+    let x-is = came (h .result) (h .ok) (h .ensures) in
+    let whole = housePart (a .s) (a .words .now) in
+    let rest = numbersLine (get byAccount (a .s) (a .words .now) house ∷ []) in
     let w1 = wrote-more (wrote-none (a .out .now) (a .at) whole) (bytes "HOUSE ") rest refl (w .ensures .0) (w .ensures .1) in
     wrote-done (wrote-more w1 rest [] (sym (append-nil rest)) (k .ensures .0 ∙ (λ i. w .result + length (numbersLine (x-is i ∷ [])))) (k .ensures .1 ∙ (λ i. sets (w .last .0) (w .result) (numbersLine (x-is i ∷ []))))) refl
 
@@ -51,7 +49,7 @@ pub put-house-spec : {M : Type 1} → statement M
 put-house-spec =
     tie.close
     (tie.spec
-    shared-slice-copy-out-house
+    head-word-requires
     slice-aggregate-put-word
     put-word-requires
     slice-aggregate-put-line

@@ -8,7 +8,7 @@ use lib.ListN.{length, getD}
 use Rattle.places.specs.ByAccount.{byAccount}
 use Rattle.soundness.specs.SoundLaws.{Ledger}
 use Rattle.lines.proofs.WriteLaws.{Wrote, wrote-none, wrote-more, wrote-done}
-use Rattle.dayfile.specs.CallLines.{callAt, callOf, callsAt}
+use Rattle.dayfile.specs.CallLines.{mostFigures, callAt, callOf, callsAt}
 use Rattle.day.specs.InsideDay.{doneAt}
 use Rattle.calls.specs.Ledger.{theLedger}
 use Rattle.calls.specs.LedgerLaws.{keeps}
@@ -21,8 +21,8 @@ use Rattle.day.proofs.run_calls.Tie as tie
 
 abbrev Inv-loop : tie.InvT-loop
 Inv-loop text from count s words₀ out₀ start figures₀ at₀ put₀ left₀ words out figures at put left =
-    (put + left * 44 + s .n * 176 + 28 ≤ length out) × (length figures ≡ 64) × (length words ≡ length words₀) × Ledger byAccount s words
-    × Wrote out₀ start (callsPart theLedger (s .n) (s .p) (callsAt text (s .p) from count) words₀) out put (callsPart theLedger (s .n) (s .p) (callsAt text (s .p) at left) words)
+    (put + left * 44 + s .n * 176 + 28 ≤ length out) × (length figures ≡ mostFigures) × (length words ≡ length words₀) × Ledger byAccount s words
+    × Wrote out₀ start (callsPart theLedger s (callsAt text (s .p) from count) words₀) out put (callsPart theLedger s (callsAt text (s .p) at left) words)
 
 abbrev μ-loop : tie.MeasureT-loop
 μ-loop text from count s words₀ out₀ start figures₀ at₀ put₀ left₀ words out figures at put left = left
@@ -47,12 +47,11 @@ loop-again c =
     let l = c .before .before .before .before .before .before .before .before .before .loop in
     let a = c .before .before .before .before .before .before .before .before .before .before .before .before .args in
     let k = c .before .before .before .before .do-call in
-    let n = a .s .n in
     let p = a .s .p in
     let text = a .text .now in
     let done = doneAt theLedger text p (l .at) (l .words) in
-    let rest = callsPart theLedger n p (callsAt text p (k .result .at) (l .left - 1)) (k .last .1 .1 .1 .0) in
-    let rest-is = calls-more theLedger n p text (l .at) (l .left) (l .words) (omega arith) ∙ ap₂ (λ (m : ℕ) (w : List ℤ). replyLine (done .0) ++ callsPart theLedger n p (callsAt text p m (l .left - 1)) w) (sym (k .ensures .at-is)) (sym (k .ensures .words-are)) in (
+    let rest = callsPart theLedger (a .s) (callsAt text p (k .result .at) (l .left - 1)) (k .last .1 .1 .1 .0) in
+    let rest-is = calls-more theLedger (a .s) text (l .at) (l .left) (l .words) (omega arith) ∙ ap₂ (λ (m : ℕ) (w : List ℤ). replyLine (done .0) ++ callsPart theLedger (a .s) (callsAt text p m (l .left - 1)) w) (sym (k .ensures .at-is)) (sym (k .ensures .words-are)) in (
       omega (arith, k .ensures .put-is, k .kept .1 .1 .1 .1 .1 .0, reply-length (done .0)),
       k .kept .1 .1 .1 .1 .0 ∙ l .inv .1,
       k .kept .1 .1 .1 .0 ∙ l .inv .2,
@@ -74,8 +73,8 @@ returns c =
     let l = c .before .before .before .before .before .before .loop in
     let a = c .before .before .before .before .before .before .before .before .before .args in
     let k = c .before .before .put-end in
-    let e = endPart theLedger (a .s .n) (a .s .p) (l .words) in
-    wrote-done (wrote-more (l .inv .4) e [] (calls-none theLedger (a .s .n) (a .s .p) (a .text .now) (l .at) (l .left) (l .words) (omega arith) ∙ sym (append-nil e)) (k .ensures .0) (k .ensures .1)) refl
+    let e = endPart theLedger (a .s) (l .words) in
+    wrote-done (wrote-more (l .inv .4) e [] (calls-none theLedger (a .s) (a .text .now) (l .at) (l .left) (l .words) (omega arith) ∙ sym (append-nil e)) (k .ensures .0) (k .ensures .1)) refl
 
 pub run-calls-spec : {M : Type 1} → statement M
 run-calls-spec =

@@ -1,4 +1,4 @@
--- The two cases of the definition; none gives more than 64.
+-- The two cases of the definition; none gives more than the most.
 use mathlib.Core.Path.{subst}
 use Prim.Native.Nat.{ℕ, _≤_, _<_}
 use native.Mathlib.Omega.{arith}

@@ -1,17 +1,18 @@
 -- `acct_at` meets its contract: the products of the counts fit; the place is inside by the layout's law. Assumes nothing.
 use Prim.Native.Nat.{_*_, _≤_}
-use native.Mathlib.Nat.{mul-le-mul}
 use native.Mathlib.Omega.{arith}
 use mathlib.Core.Path.{refl}
 use Rattle.places.specs.Place.{acct}
+use Rattle.places.specs.Act.{mostAccounts, mostProducts}
 use Rattle.places.specs.ByAccountWords.{recordSize}
+use Rattle.places.specs.ByAccountLaws.{records-most}
 use Rattle.places.specs.ByAccount.{byAccount}
 use borrow.Author.Needs.{needs}
 use Rattle.places.proofs.acct_at.Statement.{statement}
 use Rattle.places.proofs.acct_at.Tie as tie
 
-rows : (c : tie.Start) → c .args .a * recordSize (c .args .s .p) ≤ 64 * recordSize 16
-rows c = let h : c .args .a ≤ 64 = omega arith in let k : recordSize (c .args .s .p) ≤ recordSize 16 = omega arith in mul-le-mul h k
+rows : (c : tie.Start) → c .args .a * recordSize (c .args .s .p) ≤ mostAccounts * recordSize mostProducts
+rows c = records-most (c .args .s .p) (c .args .a) (omega arith) (omega arith)
 
 mul-result : tie.Need-mul-result
 mul-result c = search needs

@@ -1,14 +1,15 @@
 -- `words_of` meets its contract: the products of the counts fit. Assumes nothing.
 use Prim.Native.Nat.{_*_, _≤_}
-use native.Mathlib.Nat.{mul-le-mul}
 use native.Mathlib.Omega.{arith}
+use Rattle.places.specs.Act.{mostAccounts, mostProducts}
 use Rattle.places.specs.ByAccountWords.{recordSize}
+use Rattle.places.specs.ByAccountLaws.{records-most}
 use borrow.Author.Needs.{needs}
 use Rattle.places.proofs.words_of.Statement.{statement}
 use Rattle.places.proofs.words_of.Tie as tie
 
-rows : (c : tie.Start) → c .args .s .n * recordSize (c .args .s .p) ≤ 64 * recordSize 16
-rows c = let k : recordSize (c .args .s .p) ≤ recordSize 16 = omega arith in mul-le-mul (c .pre .0) k
+rows : (c : tie.Start) → c .args .s .n * recordSize (c .args .s .p) ≤ mostAccounts * recordSize mostProducts
+rows c = records-most (c .args .s .p) (c .args .s .n) (omega arith) (omega arith)
 
 mul-result : tie.Need-mul-result
 mul-result c = search needs

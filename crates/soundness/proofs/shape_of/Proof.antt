@@ -3,7 +3,7 @@ use mathlib.Core.Path.{ap, _∙_}
 use lib.IntN.{pos}
 use lib.ListN.{getD}
 use Rattle.whole.specs.Signs.{back}
-use Rattle.places.specs.Act.{statedCount}
+use Rattle.places.specs.Act.{statedCount, mostAccounts, mostProducts}
 use borrow.Author.Needs.{needs}
 use Rattle.soundness.proofs.shape_of.Statement.{statement}
 use Rattle.soundness.proofs.shape_of.Tie as tie
@@ -25,8 +25,8 @@ returns c =
     let W = c .before .before .before .before .args .words .now in
     let x = c .before .before .before .stated-count-arg .given in let y = c .before .stated-count-arg2 .given in λ i.
     record {
-      n = (c .before .before .stated-count .ensures ∙ ap (statedCount 64) (back (getD W 0 (pos 0)) x)) i;
-      p = (c .stated-count2 .ensures ∙ ap (statedCount 16) (back (getD W 1 (pos 0)) y)) i;
+      n = (c .before .before .stated-count .ensures ∙ ap (statedCount mostAccounts) (back (getD W 0 (pos 0)) x)) i;
+      p = (c .stated-count2 .ensures ∙ ap (statedCount mostProducts) (back (getD W 1 (pos 0)) y)) i;
     }
 
 pub shape-of-spec : {M : Type 1} → statement M

@@ -12,7 +12,7 @@ use Rattle.whole.specs.Tests.{both, fails, holds}
 use Rattle.places.specs.declared.Shape.{Shape}
 use Rattle.places.specs.Place.{get, wordsOf}
 use Rattle.places.specs.ByAccount.{byAccount}
-use Rattle.places.specs.Act.{shapeOk}
+use Rattle.places.specs.Act.{mostAccounts, mostProducts, shapeOk}
 use Rattle.places.specs.ActLaws.{sound-at, not-sized, count-le}
 use Rattle.soundness.specs.Sound.{sound, placesOk}
 use Rattle.soundness.proofs.sound.Statement.{statement}
@@ -29,8 +29,8 @@ module _ (c : tie.After-shape-of) where
   read : sound byAccount W ≡ (shapeOk W s && placesOk s (get byAccount s W))
   read = sound-at placesOk byAccount W s (c .shape-of .ensures)
 
-  few : (s .n ≤ 64) × (s .p ≤ 16)
-  few = rw (c .shape-of .ensures) (count-le 64 (getD W 0 (pos 0)), count-le 16 (getD W 1 (pos 0)))
+  few : (s .n ≤ mostAccounts) × (s .p ≤ mostProducts)
+  few = rw (c .shape-of .ensures) (count-le mostAccounts (getD W 0 (pos 0)), count-le mostProducts (getD W 1 (pos 0)))
 
 returns : tie.Need-returns
 returns c = sym (not-sized placesOk byAccount (c .before .args .words .now) (λ e. omega arith))

@@ -1,46 +1,51 @@
--- Account by account the base goes on by the width of a record; one law serves every section of lines.
-use Rattle.lines.specs.Lines.{Stand, lineStartOf}
-use Rattle.lines.proofs.LineLaws.{Onward, onward-none, onward-more, onward-bad, onward-done, line-by}
-use Rattle.dayfile.specs.Sections.{accountFigures, accountLine, accountsFrom}
-use Rattle.dayfile.specs.Words.{accountWord, width}
-use Rattle.dayfile.proofs.DayLaws.{account-first, account-next, account-inside}
+-- Each line is written at its account's place; one law serves every section of lines. Assumes nothing.
 use mathlib.Core.Path.{_≡_, refl, _∙_, ap}
 use mathlib.Core.List.{List}
-use Prim.Native.Nat.{ℕ, _+_, _-_}
+use Prim.Native.Nat.{ℕ, _-_}
 use native.Mathlib.Omega.{arith}
 use borrow.Author.Needs.{needs}
 use lib.IntN.{ℤ}
 use lib.ListN.{length}
 use lib.Seq.{sets}
+use Rattle.places.specs.PlaceLaws.{account-inside}
+use Rattle.places.specs.ByAccount.{byAccount}
+use Rattle.lines.specs.Lines.{Line, Stand, lineStartOf}
+use Rattle.lines.proofs.LineLaws.{Onward, onward-none, onward-more, onward-bad, onward-done, line-by}
+use Rattle.dayfile.specs.Sections.{accountFigures, accountLine, accountsFrom}
 use Rattle.dayfile.proofs.sections.accounts.Statement.{statement}
 use Rattle.dayfile.proofs.sections.accounts.Tie as tie
 
 abbrev Inv-loop : tie.InvT-loop
-Inv-loop text from first count p words₀ wide at₀ line₀ base₀ a₀ words at line base a = Onward (accountLine text p) count (record { at = from; line = first; held = words₀ }) a (record { at = at; line = line; held = words }) × (length words ≡ length words₀) × (base ≡ accountWord p a) × (wide ≡ width p)
+Inv-loop text from first s words₀ count at₀ line₀ a₀ words at line a =
+    Onward (accountLine text s) (s .n) (record { at = from; line = first; held = words₀ }) a (record { at = at; line = line; held = words })
+    × (length words ≡ length words₀)
 
 abbrev μ-loop : tie.MeasureT-loop
-μ-loop text from first count p words₀ wide at₀ line₀ base₀ a₀ words at line base a = count - a
+μ-loop text from first s words₀ count at₀ line₀ a₀ words at line a = s .n - a
 
-mul-wide : tie.Need-mul-wide Inv-loop μ-loop
-mul-wide c = search needs
-
-add-wide : tie.Need-add-wide Inv-loop μ-loop
-add-wide c = search needs
-
-mul-base : tie.Need-mul-base Inv-loop μ-loop
-mul-base c = search needs
-
-add-base : tie.Need-add-base Inv-loop μ-loop
-add-base c = search needs
+-- the line that was read is the definition's
+read : (c : tie.After-words Inv-loop μ-loop) →
+    let l = c .before .before .before .before .before .loop in
+    let u = c .before .before .before .before .before .before .before .args in
+    let k = c .before .account-line in
+    _≡_ {A = Line (List ℤ)} (record { next = k .result; held = k .last .1 .1 .0 }) (accountLine (u .text .now) (u .s) (l .a) (l .at) (l .words))
+read c =
+    let l = c .before .before .before .before .before .loop in
+    let u = c .before .before .before .before .before .before .before .args in
+    let k = c .before .account-line .ensures in
+    line-by (k .0) (k .1 ∙ ap (λ (b : ℕ). sets (l .words) b (accountFigures (u .text .now) (l .at) .values)) (c .before .before .before .acct-at .ensures .0))
 
 loop-holds : tie.Need-loop-holds Inv-loop μ-loop
-loop-holds c = (onward-none (accountLine (c .before .args .text .now) (c .before .args .p)) (c .before .args .count) _, refl, account-first (c .before .args .p), refl)
+loop-holds c = (onward-none (accountLine (c .before .args .text .now) (c .before .args .s)) (c .before .args .s .n) _, refl)
+
+acct-at-requires : tie.Need-acct-at-requires Inv-loop μ-loop
+acct-at-requires c κs = search needs
 
 account-line-requires : tie.Need-account-line-requires Inv-loop μ-loop
 account-line-requires c κs =
-    let l = c .before .before .loop in
-    let a = c .before .before .before .before .args in
-    omega (arith, account-inside (a .p) (l .a) (a .count) (omega arith))
+    let b = c .before .before .before .before .before in
+    let l = c .before .before .before .loop in
+    omega (arith, b .pre .1 .sized, l .inv .1, c .before .acct-at .ensures .0, account-inside byAccount (b .args .s) (l .a) (omega arith))
 
 same-length : tie.Need-same-length Inv-loop μ-loop
 same-length c = search needs
@@ -48,21 +53,14 @@ same-length c = search needs
 returns : tie.Need-returns Inv-loop μ-loop
 unfolding accountsFrom
 returns c =
-    let l = c .before .before .before .before .before .loop in
-    let a = c .before .before .before .before .before .before .before .args in
-    let k = c .before .before .account-line in
-    let is = line-by (k .ensures .0) (k .ensures .1 ∙ ap (λ (b : ℕ). sets (l .words) b (accountFigures (a .text .now) (l .at) .values)) (l .inv .2)) in
-    let e = onward-bad (accountLine (a .text .now) (a .p)) (l .inv .0) (omega arith) (record { next = k .result; held = k .last .1 .1 .0 }) is (c .if1 .taken) in
+    let d = c .before in
+    let l = d .before .before .before .before .before .loop in
+    let u = d .before .before .before .before .before .before .before .args in
+    let e = onward-bad (accountLine (u .text .now) (u .s)) (l .inv .0) (omega arith) _ (read d) (c .if1 .taken) in
     (ap lineStartOf e, ap (λ (s : Stand (List ℤ)). s .held) e)
 
 add-line : tie.Need-add-line Inv-loop μ-loop
 add-line c = omega arith
-
-add-base-2 : tie.Need-add-base-2 Inv-loop μ-loop
-add-base-2 c =
-    let l = c .before .before .before .before .before .loop in
-    let a = c .before .before .before .before .before .before .before .args in
-    omega (arith, account-inside (a .p) (l .a) (a .count) (omega arith))
 
 add-a : tie.Need-add-a Inv-loop μ-loop
 add-a c = omega arith
@@ -72,11 +70,10 @@ loop-less c = omega arith
 
 loop-again : tie.Need-loop-again Inv-loop μ-loop
 loop-again c =
-    let l = c .before .before .before .before .before .loop in
-    let a = c .before .before .before .before .before .before .before .args in
-    let k = c .before .before .account-line in
-    let is = line-by (k .ensures .0) (k .ensures .1 ∙ ap (λ (b : ℕ). sets (l .words) b (accountFigures (a .text .now) (l .at) .values)) (l .inv .2)) in
-    (onward-more (accountLine (a .text .now) (a .p)) (l .inv .0) (omega arith) (record { next = k .result; held = k .last .1 .1 .0 }) is (c .if1 .left), k .kept .1 .1 .0 ∙ l .inv .1, ap (λ (b : ℕ). b + width (a .p)) (l .inv .2) ∙ account-next (a .p) (l .a), l .inv .3)
+    let d = c .before in
+    let l = d .before .before .before .before .before .loop in
+    let u = d .before .before .before .before .before .before .before .args in
+    (onward-more (accountLine (u .text .now) (u .s)) (l .inv .0) (omega arith) _ (read d) (c .if1 .left), d .before .account-line .kept .1 .1 .0 ∙ l .inv .1)
 
 same-length-2 : tie.Need-same-length-2 Inv-loop μ-loop
 same-length-2 c = search needs
@@ -85,8 +82,8 @@ returns-2 : tie.Need-returns-2 Inv-loop μ-loop
 unfolding accountsFrom
 returns-2 c =
     let l = c .before .loop in
-    let a = c .before .before .before .args in
-    let e = onward-done (accountLine (a .text .now) (a .p)) (l .inv .0) (omega arith) in
+    let u = c .before .before .before .args in
+    let e = onward-done (accountLine (u .text .now) (u .s)) (l .inv .0) (omega arith) in
     (ap lineStartOf e, ap (λ (s : Stand (List ℤ)). s .held) e)
 
 pub accounts-spec : {M : Type 1} → statement M
@@ -95,16 +92,12 @@ accounts-spec =
     (tie.spec
     Inv-loop
     μ-loop
-    mul-wide
-    add-wide
-    mul-base
-    add-base
     loop-holds
+    acct-at-requires
     account-line-requires
     same-length
     returns
     add-line
-    add-base-2
     add-a
     loop-less
     loop-again

@@ -4,10 +4,13 @@ use native.Mathlib.Omega.{arith}
 use lib.IntN.{natAbs}
 use mir.Syntax.{w64}
 use mir.Facts.{toZ-ofZ}
+use Rattle.whole.specs.Number.{isOneOf}
+use Rattle.whole.specs.Tests.{is-one-of}
+use Rattle.places.specs.declared.Shape.{Shape}
 use Rattle.lines.specs.Lines.{Line}
 use Rattle.dayfile.specs.InsideDayfile.{Positioned}
-use Rattle.dayfile.specs.Sections.{isOneOf, Stated, stated}
-use Rattle.dayfile.proofs.DayLaws.{one-of-below, mark-inside, position-inside}
+use Rattle.dayfile.specs.Sections.{Stated, stated}
+use Rattle.dayfile.proofs.DayLaws.{mark-inside}
 use Rattle.dayfile.proofs.PositionLaws.{position-no-account, position-no-product, position-stated}
 use borrow.Author.Needs.{needs}
 use Rattle.dayfile.proofs.sections.position_line.Statement.{statement}
@@ -46,14 +49,18 @@ state-position-requires c κs =
     let f4 = c .before .before .before .before .before .before .before .before .before .before .before .before .field-at4 in
     let a-is = toZ-ofZ {w = w64} {z = f1 .result .value} (record { sfits = c .before .before .before .before .before .before .before .before .before .before .before .struct-told .given .0 .1 }) in
     let j-is = toZ-ofZ {w = w64} {z = f2 .result .value} (record { sfits = c .before .before .before .before .before .before .before .before .before .before .struct-told2 .given .0 .1 }) in
+    let shape : Shape = record { n = a .n; p = a .p } in
     let s : Stated = record { words = a .words .now; marks = a .marks .now } in
     let size-is = c .before .nat-abs .ensures ∙ ap natAbs a-is in
     let size2-is = c .nat-abs2 .ensures ∙ ap natAbs j-is in
-    let ha = one-of-below (a .n) (f1 .result .value) (sym (c .before .before .before .before .before .before .before .before .before .is-one-of .ensures ∙ ap (isOneOf (a .n)) a-is) ∙ c .before .before .before .before .before .before .before .before .if1 .taken) in
-    let hj = one-of-below (a .p) (f2 .result .value) (sym (c .before .before .before .before .before .before .before .is-one-of2 .ensures ∙ ap (isOneOf (a .p)) j-is) ∙ c .before .before .before .before .before .before .if2 .taken) in
+    let ha = is-one-of (a .n) (f1 .result .value) (sym (c .before .before .before .before .before .before .before .before .before .is-one-of .ensures ∙ ap (isOneOf (a .n)) a-is) ∙ c .before .before .before .before .before .before .before .before .if1 .taken) in
+    let hj = is-one-of (a .p) (f2 .result .value) (sym (c .before .before .before .before .before .before .before .is-one-of2 .ensures ∙ ap (isOneOf (a .p)) j-is) ∙ c .before .before .before .before .before .before .if2 .taken) in
     let pre = c .before .before .before .before .before .before .before .before .before .before .before .before .before .before .before .before .before .before .pre in (
-      rw (size-is, size2-is) (omega (arith, mark-inside (a .n) (a .p) (natAbs (f1 .result .value)) (natAbs (f2 .result .value)) (pre .0) (pre .1 .0) ha hj, pre .1 .1 .1)),
-      rw (size-is, size2-is) (omega (arith, position-inside (a .n) (a .p) (natAbs (f1 .result .value)) (natAbs (f2 .result .value)) ha hj, pre .1 .1 .0)),
+      pre .0,
+      (
+        rw (size-is, size2-is) (ha .high, hj .high, omega arith),
+        rw (size-is, size2-is) (omega (arith, mark-inside shape (natAbs (f1 .result .value)) (natAbs (f2 .result .value)) (pre .0 .few) (pre .0 .few′) (ha .high) (hj .high), pre .1)),
+      ),
     )
 
 same-length : tie.Need-same-length
@@ -71,14 +78,15 @@ returns c =
     let f4 = c .before .before .before .before .before .before .before .before .before .before .before .before .before .before .before .before .field-at4 in
     let a-is = toZ-ofZ {w = w64} {z = f1 .result .value} (record { sfits = c .before .before .before .before .before .before .before .before .before .before .before .before .before .before .before .struct-told .given .0 .1 }) in
     let j-is = toZ-ofZ {w = w64} {z = f2 .result .value} (record { sfits = c .before .before .before .before .before .before .before .before .before .before .before .before .before .before .struct-told2 .given .0 .1 }) in
+    let shape : Shape = record { n = a .n; p = a .p } in
     let s : Stated = record { words = a .words .now; marks = a .marks .now } in
     let lots-is = toZ-ofZ {w = w64} {z = f3 .result .value} (record { sfits = c .before .before .before .before .before .before .before .before .before .struct-told3 .given .0 .1 }) in
     let book-is = toZ-ofZ {w = w64} {z = f4 .result .value} (record { sfits = c .before .before .before .before .before .before .before .before .struct-told4 .given .0 .1 }) in
     let size-is = c .before .before .before .before .before .nat-abs .ensures ∙ ap natAbs a-is in
     let size2-is = c .before .before .before .before .nat-abs2 .ensures ∙ ap natAbs j-is in
-    position-stated (a .text .now) (a .n) (a .p) (a .at) s (f1 .result) (f2 .result) (f3 .result) (f4 .result) (f1 .ensures) (f2 .ensures) (f3 .ensures) (f4 .ensures)
+    position-stated (a .text .now) shape (a .at) s (f1 .result) (f2 .result) (f3 .result) (f4 .result) (f1 .ensures) (f2 .ensures) (f3 .ensures) (f4 .ensures)
     (sym (c .before .before .before .before .before .before .before .before .before .before .before .before .before .is-one-of .ensures ∙ ap (isOneOf (a .n)) a-is) ∙ c .before .before .before .before .before .before .before .before .before .before .before .before .if1 .taken) (sym (c .before .before .before .before .before .before .before .before .before .before .before .is-one-of2 .ensures ∙ ap (isOneOf (a .p)) j-is) ∙ c .before .before .before .before .before .before .before .before .before .before .if2 .taken)
-    (subst (λ (l : Line Stated). Positioned l (c .before .before .before .state-position .result) (c .before .before .before .state-position .last .0) (c .before .before .before .state-position .last .1 .0)) (λ i. stated (a .p) (size-is i) (size2-is i) (lots-is i) (book-is i) (f4 .result .next) s) (c .before .before .before .state-position .ensures))
+    (subst (λ (l : Line Stated). Positioned l (c .before .before .before .state-position .result) (c .before .before .before .state-position .last .0) (c .before .before .before .state-position .last .1 .0)) (λ i. stated shape (size-is i) (size2-is i) (lots-is i) (book-is i) (f4 .result .next) s) (c .before .before .before .state-position .ensures))
 
 returns-2 : tie.Need-returns-2
 returns-2 c =
@@ -89,8 +97,9 @@ returns-2 c =
     let f4 = c .before .before .before .before .before .before .field-at4 in
     let a-is = toZ-ofZ {w = w64} {z = f1 .result .value} (record { sfits = c .before .before .before .before .before .struct-told .given .0 .1 }) in
     let j-is = toZ-ofZ {w = w64} {z = f2 .result .value} (record { sfits = c .before .before .before .before .struct-told2 .given .0 .1 }) in
+    let shape : Shape = record { n = a .n; p = a .p } in
     let s : Stated = record { words = a .words .now; marks = a .marks .now } in
-    position-no-product (a .text .now) (a .n) (a .p) (a .at) s (f1 .result) (f2 .result) (f3 .result) (f4 .result) (f1 .ensures) (f2 .ensures) (f3 .ensures) (f4 .ensures) (sym (c .before .before .before .is-one-of .ensures ∙ ap (isOneOf (a .n)) a-is) ∙ c .before .before .if1 .taken) (sym (c .before .is-one-of2 .ensures ∙ ap (isOneOf (a .p)) j-is) ∙ c .if2 .left)
+    position-no-product (a .text .now) shape (a .at) s (f1 .result) (f2 .result) (f3 .result) (f4 .result) (f1 .ensures) (f2 .ensures) (f3 .ensures) (f4 .ensures) (sym (c .before .before .before .is-one-of .ensures ∙ ap (isOneOf (a .n)) a-is) ∙ c .before .before .if1 .taken) (sym (c .before .is-one-of2 .ensures ∙ ap (isOneOf (a .p)) j-is) ∙ c .if2 .left)
 
 returns-3 : tie.Need-returns-3
 returns-3 c =
@@ -101,8 +110,9 @@ returns-3 c =
     let f4 = c .before .before .before .before .field-at4 in
     let a-is = toZ-ofZ {w = w64} {z = f1 .result .value} (record { sfits = c .before .before .before .struct-told .given .0 .1 }) in
     let j-is = toZ-ofZ {w = w64} {z = f2 .result .value} (record { sfits = c .before .before .struct-told2 .given .0 .1 }) in
+    let shape : Shape = record { n = a .n; p = a .p } in
     let s : Stated = record { words = a .words .now; marks = a .marks .now } in
-    position-no-account (a .text .now) (a .n) (a .p) (a .at) s (f1 .result) (f2 .result) (f3 .result) (f4 .result) (f1 .ensures) (f2 .ensures) (f3 .ensures) (f4 .ensures) (sym (c .before .is-one-of .ensures ∙ ap (isOneOf (a .n)) a-is) ∙ c .if1 .left)
+    position-no-account (a .text .now) shape (a .at) s (f1 .result) (f2 .result) (f3 .result) (f4 .result) (f1 .ensures) (f2 .ensures) (f3 .ensures) (f4 .ensures) (sym (c .before .is-one-of .ensures ∙ ap (isOneOf (a .n)) a-is) ∙ c .if1 .left)
 
 pub position-line-spec : {M : Type 1} → statement M
 position-line-spec =

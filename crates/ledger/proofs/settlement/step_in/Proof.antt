@@ -12,7 +12,7 @@ use Rattle.whole.specs.Tests.{fails, holds, in-range}
 use Rattle.whole.specs.Signs.{came}
 use Rattle.places.specs.Place.{View, get, phase}
 use Rattle.places.specs.ByAccount.{byAccount}
-use Rattle.places.specs.Act.{finish}
+use Rattle.places.specs.Act.{mostAccounts, finish}
 use Rattle.soundness.specs.Sound.{turn}
 use Rattle.soundness.specs.Perform.{does}
 use Rattle.soundness.specs.PerformLaws.{refused-as}
@@ -28,7 +28,7 @@ module _ (s : tie.Start) where
   abbrev g : View
   g = get byAccount (s .args .s) W
 
-few : (s : tie.Start) → s .args .s .n ≤ 64
+few : (s : tie.Start) → s .args .s .n ≤ mostAccounts
 few s = s .pre .sized .few
 
 tested : (c : tie.After-between) → let s = c .before .before .before in c .between .result ≡ between (pos 1) (pos (s .args .s .n)) (g s phase)
