@@ -108,7 +108,7 @@ fn do_call(
     ensures { λ r. ⌜ Turned theLedger (now (text .entry)) (s .p) at (now (words .entry)) (now (out .entry)) put r (now (words .exit)) (now (out .exit)) ⌝ }
 {
     let p = s.p;
-    let letter = lines::byte_at(text, at);
+    let letter = dayfile::letter_there(text, at);
     let k = dayfile::given_of(p, letter);
     let next = dayfile::call_line(text, p, at, figures);
     let r = calls::act(words, s, letter, &figures[..k]);

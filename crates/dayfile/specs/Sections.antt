@@ -14,6 +14,7 @@ use Rattle.places.specs.Act.{mostHeld}
 use Rattle.places.specs.ByAccount.{byAccount}
 use Rattle.lines.specs.Bytes.{bytes}
 use Rattle.lines.specs.Lines.{space, lineFeed, lost, fieldAt, FiguresRead, kindAt, Line, Stand, lines}
+use Rattle.dayfile.specs.declared.Holding.{Holding}
 
 -- the words before anything is stated: the numbers of accounts and products, and zeros (01: "Phase and house start at 0")
 abbrev pub freshWords : Shape → List ℤ
@@ -63,16 +64,22 @@ stated s a j q b next sofar =
     (record { next = next; held = record { words = words; marks = set (sofar .marks) mark 1 } })
     (record { next = lost; held = sofar })
 
--- `account product lots book`: 01, "a position of no account or product" makes its line bad
-unfoldable pub positionAt : (text : List ℕ) (s : Shape) (at : ℕ) (sofar : Stated) → Line Stated
-positionAt text s at sofar =
+-- `account product lots book`, and the next line
+abbrev pub holdingAt : (text : List ℕ) (at : ℕ) → Holding
+holdingAt text at =
     let a = fieldAt text at space in
     let j = fieldAt text (a .next) space in
     let q = fieldAt text (j .next) space in
     let b = fieldAt text (q .next) lineFeed in
-    cond (isOneOf (s .n) (a .value))
-    (cond (isOneOf (s .p) (j .value))
-    (stated s (natAbs (a .value)) (natAbs (j .value)) (q .value) (b .value) (b .next) sofar)
+    record { account = a .value; product = j .value; lots = q .value; book = b .value; next = b .next }
+
+-- 01, "a position of no account or product" makes its line bad
+unfoldable pub positionAt : (text : List ℕ) (s : Shape) (at : ℕ) (sofar : Stated) → Line Stated
+positionAt text s at sofar =
+    let h = holdingAt text at in
+    cond (isOneOf (s .n) (h .account))
+    (cond (isOneOf (s .p) (h .product))
+    (stated s (natAbs (h .account)) (natAbs (h .product)) (h .lots) (h .book) (h .next) sofar)
     (record { next = lost; held = sofar }))
     (record { next = lost; held = sofar })
 

@@ -1,6 +1,7 @@
-// The day file, read (01, "The day file and the sheet"): the table of contents, through the view of `reader`; the bodies, of which `sections`
-// has all but the calls. What reads a line takes a text and a place in it, and gives the next place, or LOST. The number of a line goes up only
-// past a good line, so that the first bad one needs no search.
+// The day file, read (01, "The day file and the sheet"), line by line through the view of `reader`: the table of contents; the bodies, of which
+// `sections` has all but the calls. What reads a line takes a text and a place in it, and gives the next place, or LOST. The number of a line goes
+// up only past a good line, so that the first bad one needs no search.
+mod body;
 pub mod reader;
 mod sections;
 
@@ -12,7 +13,7 @@ ghost use mathlib.Core.Path.{_≡_};
 ghost use mathlib.Core.List.{_∷_, []};
 ghost use Prim.Native.Nat.{_+_, _<_, _≤_};
 ghost use lib.IntN.{pos};
-ghost use lib.ListN.{length, replicate};
+ghost use lib.ListN.{length, replicate, getD};
 ghost use lib.Seq.{sets};
 ghost use Rattle.whole.specs.Counting.{figureAt};
 ghost use Rattle.places.specs.Place.{wordsOf};
@@ -34,6 +35,15 @@ const NO_CALL: usize = MOST_FIGURES + 1;
 // A line of the table of contents: its count, and the next line.
 pub struct Counted {
     pub count: usize,
+    pub next: usize,
+}
+
+// What a position's line says, and the next line.
+pub struct Holding {
+    pub account: i64,
+    pub product: i64,
+    pub lots: i64,
+    pub book: i64,
     pub next: usize,
 }
 
@@ -151,18 +161,27 @@ fn past_gap(text: &[u8], at: usize, k: usize) -> usize
     lines::past_word(text, at, b" ")
 }
 
-// A call's line: its figures.
-pub fn call_line(text: &[u8], p: usize, at: usize, figures: &mut [i64]) -> usize
-    requires { ⌜ p ≤ 16 ⌝ ∗ ⌜ 64 ≤ length (now figures) ⌝ }
+// A call's letter, through a view at its place.
+pub fn letter_there(text: &[u8], at: usize) -> u8
+    ensures { λ r. ⌜ r ≡ getD (now (text .entry)) at 0 ⌝ }
+{
+    Reader::new(text).moved(at).letter()
+}
+
+// A call's line, through a view at its place. The order of what is passed is that of every body line, so that one law proves them all.
+fn call_there(text: &[u8], at: usize, figures: &mut [i64], p: usize) -> usize
+    requires { ⌜ (p ≤ mostProducts) × (mostFigures ≤ length (now figures)) ⌝ }
     ensures { λ r. ⌜ (r ≡ callAt (now (text .entry)) p at .next) × (now (figures .exit) ≡ sets (now (figures .entry)) 0 (callAt (now (text .entry)) p at .values)) ⌝ }
 {
-    let letter = lines::byte_at(text, at);
-    let k = figures_of(p, letter);
-    if k > 64 {
-        return LOST;
-    }
-    let from = past_gap(text, at + 1, k);
-    lines::fields(text, from, k, figures, 0)
+    Reader::new(text).moved(at).call(figures, p)
+}
+
+// A call's line: its figures.
+pub fn call_line(text: &[u8], p: usize, at: usize, figures: &mut [i64]) -> usize
+    requires { ⌜ p ≤ mostProducts ⌝ ∗ ⌜ mostFigures ≤ length (now figures) ⌝ }
+    ensures { λ r. ⌜ (r ≡ callAt (now (text .entry)) p at .next) × (now (figures .exit) ≡ sets (now (figures .entry)) 0 (callAt (now (text .entry)) p at .values)) ⌝ }
+{
+    call_there(text, at, figures, p)
 }
 
 // The first pass over the calls: are their lines well formed?

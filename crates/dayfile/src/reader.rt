@@ -1,8 +1,17 @@
-// The reader of a day file (01: "The reader is a view that holds the text and its place"), and the lines of the table of contents that are
-// read through it. What is read of a line is a function of a text and a place; the view has a thin function for each.
+// The reader of a day file (01: "The reader is a view that holds the text and its place"): every line is read through it. What is read of a line is
+// a function of a text and a place, of the table of contents here, of the bodies in `body`; the view has a thin function for each.
 use super::Counted;
+use super::Holding;
+use super::body;
 use lines::LOST;
 ghost use mathlib.Core.Path.{_≡_};
+ghost use Prim.Native.Nat.{_+_, _≤_};
+ghost use lib.ListN.{length, getD};
+ghost use lib.Seq.{sets};
+ghost use Rattle.places.specs.Place.{productFields, fields};
+ghost use Rattle.places.specs.Act.{mostProducts};
+ghost use Rattle.dayfile.specs.CallLines.{mostFigures, callAt};
+ghost use Rattle.dayfile.specs.Sections.{productFigures, accountFigures, holdingAt};
 ghost use Rattle.dayfile.specs.Table.{countLine, pastHeader, productsCount, accountsCount, positionsCount, callsCount, pastEnd};
 
 // ---- the lines of the table, at a place of a text
@@ -138,5 +147,43 @@ impl<'a> Reader<'a> {
         ensures { λ s. ⌜ s ≡ pastEnd (now (self .entry .text)) (self .entry .at) ⌝ }
     {
         end_at(self.text, self.at)
+    }
+
+    // The lines of the bodies. A product's: its five words, from a base on; and the next line.
+    pub fn product(self, words: &mut [i64], base: usize) -> usize
+        requires { ⌜ base + productFields ≤ length (now words) ⌝ }
+        ensures { λ s. ⌜ (s ≡ productFigures (now (self .entry .text)) (self .entry .at) .next) × (now (words .exit) ≡ sets (now (words .entry)) base (productFigures (now (self .entry .text)) (self .entry .at) .values)) ⌝ }
+    {
+        body::product_at(self.text, self.at, words, base)
+    }
+
+    // An account's: its first eight words, from a base on.
+    pub fn account(self, words: &mut [i64], base: usize) -> usize
+        requires { ⌜ base + fields ≤ length (now words) ⌝ }
+        ensures { λ s. ⌜ (s ≡ accountFigures (now (self .entry .text)) (self .entry .at) .next) × (now (words .exit) ≡ sets (now (words .entry)) base (accountFigures (now (self .entry .text)) (self .entry .at) .values)) ⌝ }
+    {
+        body::account_at(self.text, self.at, words, base)
+    }
+
+    // A position's: by value, since its account and product are to be tested before anything is written.
+    pub fn position(self) -> Holding
+        ensures { λ s. ⌜ s ≡ holdingAt (now (self .entry .text)) (self .entry .at) ⌝ }
+    {
+        body::position_at(self.text, self.at)
+    }
+
+    // A call's letter, which tells how many figures follow; 0 past the end of the text.
+    pub fn letter(self) -> u8
+        ensures { λ s. ⌜ s ≡ getD (now (self .entry .text)) (self .entry .at) 0 ⌝ }
+    {
+        lines::byte_at(self.text, self.at)
+    }
+
+    // A call's, of a ledger of p products: its figures.
+    pub fn call(self, figures: &mut [i64], p: usize) -> usize
+        requires { ⌜ (p ≤ mostProducts) × (mostFigures ≤ length (now figures)) ⌝ }
+        ensures { λ s. ⌜ (s ≡ callAt (now (self .entry .text)) p (self .entry .at) .next) × (now (figures .exit) ≡ sets (now (figures .entry)) 0 (callAt (now (self .entry .text)) p (self .entry .at) .values)) ⌝ }
+    {
+        body::call_at(self.text, self.at, figures, p)
     }
 }

@@ -1,6 +1,7 @@
 // The sections of a day file but the calls: products, accounts, positions (01, "The day file and the sheet"). Each writes what its lines state
 // into the ledger's words, up to the first bad line.
-use super::ACCOUNT_FIGURES;
+use super::Holding;
+use super::reader::Reader;
 use lines::LOST;
 use lines::LineStart;
 use places::Shape;
@@ -9,35 +10,26 @@ ghost use Prim.Native.Nat.{_+_, _*_, _<_, _≤_};
 ghost use lib.ListN.{length};
 ghost use lib.Seq.{sets};
 ghost use Rattle.lines.specs.Lines.{lineStartOf};
-ghost use Rattle.places.specs.Place.{Has, lots};
+ghost use Rattle.places.specs.Place.{productFields, fields, Has, lots};
 ghost use Rattle.places.specs.Act.{mostHeld};
 ghost use Rattle.places.specs.PlaceLaws.{Sized};
 ghost use Rattle.dayfile.specs.InsideDayfile.{Statement, Positioned, AllPositioned};
-ghost use Rattle.dayfile.specs.Sections.{productFigures, accountFigures, productsFrom, accountsFrom, positionAt, positionsFrom};
+ghost use Rattle.dayfile.specs.Sections.{productFigures, accountFigures, productsFrom, accountsFrom, holdingAt, positionAt, positionsFrom};
 
-// A product's line: `Y mark price` or `X mark price principal quote`.
+// A product's line, through a view at its place.
 fn product_line(text: &[u8], at: usize, words: &mut [i64], base: usize) -> usize
-    requires { ⌜ base + 5 ≤ length (now words) ⌝ }
+    requires { ⌜ base + productFields ≤ length (now words) ⌝ }
     ensures { λ r. ⌜ (r ≡ productFigures (now (text .entry)) at .next) × (now (words .exit) ≡ sets (now (words .entry)) base (productFigures (now (text .entry)) at .values)) ⌝ }
 {
-    lines::kind_line(text, at, b"Y ", 2, b"X ", 4, words, base)
+    Reader::new(text).moved(at).product(words, base)
 }
 
-// An account's line: `F` or `L`, and its seven figures.
+// An account's line, the same way.
 fn account_line(text: &[u8], at: usize, words: &mut [i64], base: usize) -> usize
-    requires { ⌜ base + 8 ≤ length (now words) ⌝ }
+    requires { ⌜ base + fields ≤ length (now words) ⌝ }
     ensures { λ r. ⌜ (r ≡ accountFigures (now (text .entry)) at .next) × (now (words .exit) ≡ sets (now (words .entry)) base (accountFigures (now (text .entry)) at .values)) ⌝ }
 {
-    lines::kind_line(
-        text,
-        at,
-        b"F ",
-        ACCOUNT_FIGURES,
-        b"L ",
-        ACCOUNT_FIGURES,
-        words,
-        base,
-    )
+    Reader::new(text).moved(at).account(words, base)
 }
 
 // The products' lines, up to the first bad one.
@@ -109,7 +101,14 @@ fn state_position(
     next
 }
 
-// A position's line: account, product, lots, book.
+// What a position's line says, the same way.
+fn position_there(text: &[u8], at: usize) -> Holding
+    ensures { λ r. ⌜ r ≡ holdingAt (now (text .entry)) at ⌝ }
+{
+    Reader::new(text).moved(at).position()
+}
+
+// A position's line: what it says is stated, if it is of an account and a product that there are.
 fn position_line(
     text: &[u8],
     at: usize,
@@ -121,28 +120,22 @@ fn position_line(
     requires { ⌜ Sized (record { n = n; p = p }) (now words) ⌝ ∗ ⌜ mostHeld ≤ length (now marks) ⌝ }
     ensures { λ r. ⌜ Positioned (positionAt (now (text .entry)) (record { n = n; p = p }) at (record { words = now (words .entry); marks = now (marks .entry) })) r (now (words .exit)) (now (marks .exit)) ⌝ }
 {
-    let a = lines::field_at(text, at, b' ');
-    let at2 = a.next;
-    let j = lines::field_at(text, at2, b' ');
-    let at3 = j.next;
-    let lots = lines::field_at(text, at3, b' ');
-    let at4 = lots.next;
-    let book = lines::field_at(text, at4, b'\n');
-    let account = a.value;
-    let product = j.value;
+    let h = position_there(text, at);
+    let account = h.account;
+    let product = h.product;
     if whole::is_one_of(account, n) {
         if whole::is_one_of(product, p) {
-            let q = lots.value;
-            let b = book.value;
-            let next = book.next;
+            let lots = h.lots;
+            let book = h.book;
+            let next = h.next;
             return state_position(
                 words,
                 marks,
                 Shape { n, p },
                 whole::nat_abs(account) as usize,
                 whole::nat_abs(product) as usize,
-                q,
-                b,
+                lots,
+                book,
                 next,
             );
         }

@@ -20,8 +20,8 @@ use borrow.Author.Needs.{needs}
 use Rattle.day.proofs.do_call.Statement.{statement}
 use Rattle.day.proofs.do_call.Tie as tie
 
-byte-at-requires : tie.Need-byte-at-requires
-byte-at-requires c κs = search needs
+letter-there-requires : tie.Need-letter-there-requires
+letter-there-requires c κs = search needs
 
 given-of-requires : tie.Need-given-of-requires
 given-of-requires c κs = search needs
@@ -57,7 +57,7 @@ returns : tie.Need-returns
 returns c =
     let s = c .before .before .before .before .before .before .before .before .before .before .before .before .before .before .before .before in
     let a = s .args in
-    let letter-is = c .before .before .before .before .before .before .before .before .before .before .before .before .before .byte-at .ensures in
+    let letter-is = c .before .before .before .before .before .before .before .before .before .before .before .before .before .letter-there .ensures in
     let g = c .before .before .before .before .before .before .before .before .before .before .before .before .given-of in
     let l = c .before .before .before .before .before .before .before .before .before .before .call-line in
     let t = c .before .before .before .before .before .before .act in
@@ -80,7 +80,7 @@ pub do-call-spec : {M : Type 1} → statement M
 do-call-spec =
     tie.close
     (tie.spec
-    byte-at-requires
+    letter-there-requires
     given-of-requires
     call-line-requires
     slice-reshare-prefix-act

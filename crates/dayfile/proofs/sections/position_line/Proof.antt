@@ -1,5 +1,7 @@
--- The four fields are those of the definition; the account and the product are tested as there.
-use mathlib.Core.Path.{sym, _∙_, ap, subst}
+-- The account and the product that the line says are tested as in the definition. A signed field is its bits.
+use mathlib.Core.Path.{_≡_, sym, _∙_, ap, subst}
+use mathlib.Core.Bool.{true}
+use Prim.Native.Nat.{ℕ}
 use native.Mathlib.Omega.{arith}
 use lib.IntN.{natAbs}
 use mir.Syntax.{w64}
@@ -10,23 +12,15 @@ use Rattle.places.specs.declared.Shape.{Shape}
 use Rattle.lines.specs.Lines.{Line}
 use Rattle.dayfile.specs.InsideDayfile.{Positioned}
 use Rattle.dayfile.specs.Sections.{Stated, stated}
+use Rattle.dayfile.specs.declared.Holding.{Holding}
 use Rattle.dayfile.proofs.DayLaws.{mark-inside}
 use Rattle.dayfile.proofs.PositionLaws.{position-no-account, position-no-product, position-stated}
 use borrow.Author.Needs.{needs}
 use Rattle.dayfile.proofs.sections.position_line.Statement.{statement}
 use Rattle.dayfile.proofs.sections.position_line.Tie as tie
 
-field-at-requires : tie.Need-field-at-requires
-field-at-requires c κs = search needs
-
-field-at-requires-2 : tie.Need-field-at-requires-2
-field-at-requires-2 c κs = search needs
-
-field-at-requires-3 : tie.Need-field-at-requires-3
-field-at-requires-3 c κs = search needs
-
-field-at-requires-4 : tie.Need-field-at-requires-4
-field-at-requires-4 c κs = search needs
+position-there-requires : tie.Need-position-there-requires
+position-there-requires c κs = search needs
 
 is-one-of-requires : tie.Need-is-one-of-requires
 is-one-of-requires c κs = search needs
@@ -40,26 +34,63 @@ nat-abs-requires c κs = search needs
 nat-abs-requires-2 : tie.Need-nat-abs-requires-2
 nat-abs-requires-2 c κs = search needs
 
+-- where the line was read: the counts that were passed, and what the line says
+abbrev n-of : tie.After-position-there → ℕ
+n-of k = k .before .before .before .args .n
+
+abbrev p-of : tie.After-position-there → ℕ
+p-of k = k .before .before .before .args .p
+
+abbrev said : tie.After-position-there → Holding
+said k = k .position-there .result
+
+-- the two tests, and the two numbers, are of what it says
+account-tested : (c : tie.After-is-one-of) → let k = c .before .before .before in c .is-one-of .result ≡ isOneOf (n-of k) (said k .account)
+account-tested c =
+    let k = c .before .before .before in
+    let told = c .before .before .struct-told in
+    c .is-one-of .ensures ∙ ap (isOneOf (n-of k)) (toZ-ofZ {w = w64} {z = said k .account} (record { sfits = told .given .0 .1 }))
+
+product-tested : (c : tie.After-is-one-of2) → let k = c .before .before .before .before .before in c .is-one-of2 .result ≡ isOneOf (p-of k) (said k .product)
+product-tested c =
+    let k = c .before .before .before .before .before in
+    let told = c .before .before .before .struct-told2 in
+    c .is-one-of2 .ensures ∙ ap (isOneOf (p-of k)) (toZ-ofZ {w = w64} {z = said k .product} (record { sfits = told .given .1 .0 .1 }))
+
+account-one : (c : tie.Then1) → let k = c .before .before .before .before in isOneOf (n-of k) (said k .account) ≡ true
+account-one c = sym (account-tested (c .before)) ∙ c .if1 .taken
+
+product-one : (c : tie.Then2) → let k = c .before .before .before .before .before .before in isOneOf (p-of k) (said k .product) ≡ true
+product-one c = sym (product-tested (c .before)) ∙ c .if2 .taken
+
+account-size : (c : tie.After-nat-abs) → let t = c .before .before .before .before .before .before .before .before .before .before in
+    c .nat-abs .result ≡ natAbs (said (t .before) .account)
+account-size c =
+    let t = c .before .before .before .before .before .before .before .before .before .before in
+    c .nat-abs .ensures ∙ ap natAbs (toZ-ofZ {w = w64} {z = said (t .before) .account} (record { sfits = t .struct-told .given .0 .1 }))
+
+product-size : (c : tie.After-nat-abs2) → let t = c .before .before .before .before .before .before .before .before .before .before in
+    c .nat-abs2 .result ≡ natAbs (said (t .before .before) .product)
+product-size c =
+    let t = c .before .before .before .before .before .before .before .before .before .before in
+    c .nat-abs2 .ensures ∙ ap natAbs (toZ-ofZ {w = w64} {z = said (t .before .before) .product} (record { sfits = t .struct-told2 .given .1 .0 .1 }))
+
 state-position-requires : tie.Need-state-position-requires
 state-position-requires c κs =
-    let a = c .before .before .before .before .before .before .before .before .before .before .before .before .before .before .before .before .before .before .args in
-    let f1 = c .before .before .before .before .before .before .before .before .before .before .before .before .before .before .before .field-at in
-    let f2 = c .before .before .before .before .before .before .before .before .before .before .before .before .before .before .field-at2 in
-    let f3 = c .before .before .before .before .before .before .before .before .before .before .before .before .before .field-at3 in
-    let f4 = c .before .before .before .before .before .before .before .before .before .before .before .before .field-at4 in
-    let a-is = toZ-ofZ {w = w64} {z = f1 .result .value} (record { sfits = c .before .before .before .before .before .before .before .before .before .before .before .struct-told .given .0 .1 }) in
-    let j-is = toZ-ofZ {w = w64} {z = f2 .result .value} (record { sfits = c .before .before .before .before .before .before .before .before .before .before .struct-told2 .given .0 .1 }) in
-    let shape : Shape = record { n = a .n; p = a .p } in
-    let s : Stated = record { words = a .words .now; marks = a .marks .now } in
-    let size-is = c .before .nat-abs .ensures ∙ ap natAbs a-is in
-    let size2-is = c .nat-abs2 .ensures ∙ ap natAbs j-is in
-    let ha = is-one-of (a .n) (f1 .result .value) (sym (c .before .before .before .before .before .before .before .before .before .is-one-of .ensures ∙ ap (isOneOf (a .n)) a-is) ∙ c .before .before .before .before .before .before .before .before .if1 .taken) in
-    let hj = is-one-of (a .p) (f2 .result .value) (sym (c .before .before .before .before .before .before .before .is-one-of2 .ensures ∙ ap (isOneOf (a .p)) j-is) ∙ c .before .before .before .before .before .before .if2 .taken) in
-    let pre = c .before .before .before .before .before .before .before .before .before .before .before .before .before .before .before .before .before .before .pre in (
+    let k = c .before .before .before .before .before .before .before .before .before .before .before .before in
+    let start = k .before .before .before in
+    let n = n-of k in
+    let p = p-of k in
+    let h = said k in
+    let shape : Shape = record { n = n; p = p } in
+    let ha = is-one-of n (h .account) (account-one (c .before .before .before .before .before .before .before .before)) in
+    let hj = is-one-of p (h .product) (product-one (c .before .before .before .before .before .before)) in
+    let pre = start .pre in
+    let mark = mark-inside shape (natAbs (h .account)) (natAbs (h .product)) (pre .0 .few) (pre .0 .few′) (ha .high) (hj .high) in (
       pre .0,
       (
-        rw (size-is, size2-is) (ha .high, hj .high, omega arith),
-        rw (size-is, size2-is) (omega (arith, mark-inside shape (natAbs (f1 .result .value)) (natAbs (f2 .result .value)) (pre .0 .few) (pre .0 .few′) (ha .high) (hj .high), pre .1)),
+        rw (account-size (c .before), product-size c) (ha .high, hj .high, omega arith),
+        rw (account-size (c .before), product-size c) (omega (arith, mark, pre .1)),
       ),
     )
 
@@ -71,57 +102,40 @@ same-length-2 c = search needs
 
 returns : tie.Need-returns
 returns c =
-    let a = c .before .before .before .before .before .before .before .before .before .before .before .before .before .before .before .before .before .before .before .before .before .before .args in
-    let f1 = c .before .before .before .before .before .before .before .before .before .before .before .before .before .before .before .before .before .before .before .field-at in
-    let f2 = c .before .before .before .before .before .before .before .before .before .before .before .before .before .before .before .before .before .before .field-at2 in
-    let f3 = c .before .before .before .before .before .before .before .before .before .before .before .before .before .before .before .before .before .field-at3 in
-    let f4 = c .before .before .before .before .before .before .before .before .before .before .before .before .before .before .before .before .field-at4 in
-    let a-is = toZ-ofZ {w = w64} {z = f1 .result .value} (record { sfits = c .before .before .before .before .before .before .before .before .before .before .before .before .before .before .before .struct-told .given .0 .1 }) in
-    let j-is = toZ-ofZ {w = w64} {z = f2 .result .value} (record { sfits = c .before .before .before .before .before .before .before .before .before .before .before .before .before .before .struct-told2 .given .0 .1 }) in
-    let shape : Shape = record { n = a .n; p = a .p } in
+    let e = c .before .before .before .before in
+    let k = e .before .before .before .before .before .before .before .before .before .before .before .before in
+    let a = k .before .before .before .args in
+    let h = said k in
     let s : Stated = record { words = a .words .now; marks = a .marks .now } in
-    let lots-is = toZ-ofZ {w = w64} {z = f3 .result .value} (record { sfits = c .before .before .before .before .before .before .before .before .before .struct-told3 .given .0 .1 }) in
-    let book-is = toZ-ofZ {w = w64} {z = f4 .result .value} (record { sfits = c .before .before .before .before .before .before .before .before .struct-told4 .given .0 .1 }) in
-    let size-is = c .before .before .before .before .before .nat-abs .ensures ∙ ap natAbs a-is in
-    let size2-is = c .before .before .before .before .nat-abs2 .ensures ∙ ap natAbs j-is in
-    position-stated (a .text .now) shape (a .at) s (f1 .result) (f2 .result) (f3 .result) (f4 .result) (f1 .ensures) (f2 .ensures) (f3 .ensures) (f4 .ensures)
-    (sym (c .before .before .before .before .before .before .before .before .before .before .before .before .before .is-one-of .ensures ∙ ap (isOneOf (a .n)) a-is) ∙ c .before .before .before .before .before .before .before .before .before .before .before .before .if1 .taken) (sym (c .before .before .before .before .before .before .before .before .before .before .before .is-one-of2 .ensures ∙ ap (isOneOf (a .p)) j-is) ∙ c .before .before .before .before .before .before .before .before .before .before .if2 .taken)
-    (subst (λ (l : Line Stated). Positioned l (c .before .before .before .state-position .result) (c .before .before .before .state-position .last .0) (c .before .before .before .state-position .last .1 .0)) (λ i. stated shape (size-is i) (size2-is i) (lots-is i) (book-is i) (f4 .result .next) s) (c .before .before .before .state-position .ensures))
+    let lots-is = toZ-ofZ {w = w64} {z = h .lots} (record { sfits = e .before .before .before .before .before .struct-told3 .given .1 .1 .0 .1 }) in
+    let book-is = toZ-ofZ {w = w64} {z = h .book} (record { sfits = e .before .before .before .before .struct-told4 .given .1 .1 .1 .0 .1 }) in
+    let made = c .before .before .before .state-position in
+    position-stated (a .text .now) (record { n = a .n; p = a .p }) (a .at) s h (k .position-there .ensures)
+    (account-one (e .before .before .before .before .before .before .before .before)) (product-one (e .before .before .before .before .before .before))
+    (subst (λ (l : Line Stated). Positioned l (made .result) (made .last .0) (made .last .1 .0))
+    (λ i. stated (record { n = a .n; p = a .p }) (account-size (e .before) i) (product-size e i) (lots-is i) (book-is i) (h .next) s) (made .ensures))
 
 returns-2 : tie.Need-returns-2
 returns-2 c =
-    let a = c .before .before .before .before .before .before .before .before .before .before .before .before .args in
-    let f1 = c .before .before .before .before .before .before .before .before .before .field-at in
-    let f2 = c .before .before .before .before .before .before .before .before .field-at2 in
-    let f3 = c .before .before .before .before .before .before .before .field-at3 in
-    let f4 = c .before .before .before .before .before .before .field-at4 in
-    let a-is = toZ-ofZ {w = w64} {z = f1 .result .value} (record { sfits = c .before .before .before .before .before .struct-told .given .0 .1 }) in
-    let j-is = toZ-ofZ {w = w64} {z = f2 .result .value} (record { sfits = c .before .before .before .before .struct-told2 .given .0 .1 }) in
-    let shape : Shape = record { n = a .n; p = a .p } in
+    let k = c .before .before .before .before .before .before in
+    let a = k .before .before .before .args in
     let s : Stated = record { words = a .words .now; marks = a .marks .now } in
-    position-no-product (a .text .now) shape (a .at) s (f1 .result) (f2 .result) (f3 .result) (f4 .result) (f1 .ensures) (f2 .ensures) (f3 .ensures) (f4 .ensures) (sym (c .before .before .before .is-one-of .ensures ∙ ap (isOneOf (a .n)) a-is) ∙ c .before .before .if1 .taken) (sym (c .before .is-one-of2 .ensures ∙ ap (isOneOf (a .p)) j-is) ∙ c .if2 .left)
+    position-no-product (a .text .now) (record { n = a .n; p = a .p }) (a .at) s (said k) (k .position-there .ensures)
+    (account-one (c .before .before)) (sym (product-tested (c .before)) ∙ c .if2 .left)
 
 returns-3 : tie.Need-returns-3
 returns-3 c =
-    let a = c .before .before .before .before .before .before .before .before .before .before .args in
-    let f1 = c .before .before .before .before .before .before .before .field-at in
-    let f2 = c .before .before .before .before .before .before .field-at2 in
-    let f3 = c .before .before .before .before .before .field-at3 in
-    let f4 = c .before .before .before .before .field-at4 in
-    let a-is = toZ-ofZ {w = w64} {z = f1 .result .value} (record { sfits = c .before .before .before .struct-told .given .0 .1 }) in
-    let j-is = toZ-ofZ {w = w64} {z = f2 .result .value} (record { sfits = c .before .before .struct-told2 .given .0 .1 }) in
-    let shape : Shape = record { n = a .n; p = a .p } in
+    let k = c .before .before .before .before in
+    let a = k .before .before .before .args in
     let s : Stated = record { words = a .words .now; marks = a .marks .now } in
-    position-no-account (a .text .now) shape (a .at) s (f1 .result) (f2 .result) (f3 .result) (f4 .result) (f1 .ensures) (f2 .ensures) (f3 .ensures) (f4 .ensures) (sym (c .before .is-one-of .ensures ∙ ap (isOneOf (a .n)) a-is) ∙ c .if1 .left)
+    position-no-account (a .text .now) (record { n = a .n; p = a .p }) (a .at) s (said k) (k .position-there .ensures)
+    (sym (account-tested (c .before)) ∙ c .if1 .left)
 
 pub position-line-spec : {M : Type 1} → statement M
 position-line-spec =
     tie.close
     (tie.spec
-    field-at-requires
-    field-at-requires-2
-    field-at-requires-3
-    field-at-requires-4
+    position-there-requires
     is-one-of-requires
     is-one-of-requires-2
     nat-abs-requires

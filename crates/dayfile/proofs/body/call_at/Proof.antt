@@ -10,8 +10,8 @@ use Rattle.lines.specs.Lines.{past, figuresAt}
 use Rattle.dayfile.specs.CallLines.{mostFigures, figuresOf, gap, callAt}
 use Rattle.dayfile.proofs.DayLaws.{call-inside}
 use borrow.Author.Needs.{needs}
-use Rattle.dayfile.proofs.call_line.Statement.{statement}
-use Rattle.dayfile.proofs.call_line.Tie as tie
+use Rattle.dayfile.proofs.body.call_at.Statement.{statement}
+use Rattle.dayfile.proofs.body.call_at.Tie as tie
 
 byte-at-requires : tie.Need-byte-at-requires
 byte-at-requires c κs = search needs
@@ -56,8 +56,8 @@ returns-2 c =
           ∙ ap (λ (n : ℕ). sets (a .figures .now) 0 (figuresAt (a .text .now) (past (a .text .now) (a .at + 1) (gap n)) n .values)) k-is),
     )
 
-pub call-line-spec : {M : Type 1} → statement M
-call-line-spec =
+pub call-at-spec : {M : Type 1} → statement M
+call-at-spec =
     tie.close
     (tie.spec
     byte-at-requires
