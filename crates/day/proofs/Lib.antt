@@ -1,3 +1,4 @@
 pub mod CallsPartLaws
 pub mod SheetLaws
 pub mod StartLaws
+pub mod SheetContract

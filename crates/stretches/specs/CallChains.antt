@@ -1,6 +1,7 @@
--- Demand 3, said of the code. A contract says of a call that its reply and the words at its exit are what its rule gives on the words at its entry:
--- `(r, now exit) ≡ perform L (now entry) (depositRule a x)`. So whatever functions meet these contracts, a chain of their calls is a history:
--- its answers and its last words are the history's, and four such chains stand to each other as demand 3 says. Assumes nothing.
+-- Demand 3, said of calls. A contract says of a call that its reply and the words at its exit are what its rule gives on the words at its entry:
+-- `(r, now exit) ≡ perform L (now entry) (depositRule a x)`. So whatever functions meet such contracts, a chain of their calls is a history:
+-- its answers and its last words are the history's, and four such chains stand to each other as demand 3 says. Over every layout; that the ledger's own
+-- functions are such, and what follows of them, is `LedgerCalls`. Assumes nothing.
 use mathlib.Core.Path.{_≡_, refl, sym, ap, ap₂, _∙_}
 use mathlib.Core.List.{List, [], _∷_, _++_}
 use mathlib.Core.Bool.{true}

@@ -7,7 +7,8 @@
 --   Leaves       the words of the theorems beyond the demand
 --   Demand3      THE THEOREMS, in both forms, and what they leave
 --   RunAlone     the run with no requests settles every due 0, once
---   CallChains   the same, said of functions that meet their contracts
+--   CallChains   the same, said of calls that do what happens
+--   LedgerCalls  and said of the ledger's own functions, by their own contracts
 --   HistoryExample   a history worked out
 pub mod Stretch
 pub mod Sort
@@ -20,4 +21,5 @@ pub mod Attempts
 pub mod Demand3
 pub mod RunAlone
 pub mod CallChains
+pub mod LedgerCalls
 pub mod HistoryExample

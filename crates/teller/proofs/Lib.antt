@@ -2,8 +2,8 @@
 --   Window      the window law: a rule by value, offered on a record lent for change
 --   PassedOn    the law of a window that passes its record on to another, as the C interface does
 --   LentCopy    the law of a record passed by value, of which a window is lent a copy
---   OneResult   what the two windows' contracts say is `Permits`, of which there is one result
+--   TellerContracts   what the two windows' contracts say is `Permits`, of which there is one result
 pub mod Window
 pub mod PassedOn
 pub mod LentCopy
-pub mod OneResult
+pub mod TellerContracts

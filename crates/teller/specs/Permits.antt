@@ -1,5 +1,5 @@
 -- 01, "How tight a contract has to be": any two results that a window's contract permits coincide, refusals too: one number, one figure, one
--- record. That this is what the two contracts say is `proofs/OneResult.antt`. Assumes nothing.
+-- record. That this is what the two contracts say is `proofs/TellerContracts.antt`. Assumes nothing.
 use mathlib.Core.Path.{_≡_, refl, _∙⁻¹_}
 use lib.IntN.{ℤ}
 use Rattle.rules.specs.AccountCalls.{replyOf}

@@ -1,7 +1,8 @@
 -- 01, "How tight a contract has to be", its four empty programs: refuse everything, one constant reply, leave the ledger alone, move all dues at the
--- first step and idle after. No function that meets a call's contract is one of them. Assumes nothing.
+-- first step and idle after. No function that meets a call's contract is one of them: the contract is the entry point's own, read off its clauses.
+-- Assumes nothing.
 use mathlib.Core.Path.{_≡_, refl, sym, ap, _∙_}
-use mathlib.Core.List.{List, [], _++_}
+use mathlib.Core.List.{List, [], _∷_, _++_}
 use mathlib.Core.Bool.{false}
 use Prim.Native.Nat.{ℕ, _≤_}
 use native.Mathlib.Omega.{arith}
@@ -9,6 +10,10 @@ use borrow.Author.Tests.{eq-eqb, le-ltb}
 use lib.Dec.{eqb}
 use lib.IntN.{ℤ, pos, negsuc, natAbs}
 use lib.ListN.{length, getD, drop}
+use contract.Lifetimes.{Lfts}
+use denote.Ref.{RefT, now, at-last}
+use denote.Triple.Entry.{Args}
+use Rattle.contracts.specs.Says.{World, Permits, means}
 use Rattle.whole.specs.Number.{minZ, maxZ, takesAway, floorDiv}
 use Rattle.whole.specs.Tests.{clash}
 use Rattle.rules.specs.declared.Account.{Account}
@@ -20,34 +25,58 @@ use Rattle.rules.specs.declared.Standing.{Standing}
 use Rattle.places.specs.ByAccount.{byAccount}
 use Rattle.places.specs.Act.{Rule, soundBy, performBy}
 use Rattle.soundness.specs.Perform.{perform, ask}
-use Rattle.acts.specs.Requests.{depositRule, withdrawRule, guaranteeRule, questionRule}
-use Rattle.acts.specs.Trade.{tradeRule}
-use Rattle.acts.specs.Run.{beginRule, stepRule}
+use Rattle.acts.specs.Requests.{questionRule}
+use Rattle.acts.specs.Run.{stepRule}
 use Rattle.shares.specs.Loss.{lossShared}
-use Rattle.shares.specs.LossExamples.{deposits, differences, marks, blank, worked, refused}
+use Rattle.shares.specs.LossExamples.{deposits as member-deposits, differences, marks, blank, worked, refused}
 use Rattle.lines.specs.Bytes.{bytes}
 use Rattle.day.specs.Sheet.{answerOf, sheetOf}
 use Rattle.calls.specs.Ledger.{theLedger}
+use Rattle.ledger.proofs.LedgerContracts.{deposits, withdrawals, guarantees, questions, trades, begins, steps}
+use Rattle.ledger.proofs.LedgerContracts.{deposit-says, withdraw-says, guarantee-says, question-says, trade-says, begin-says, step-says}
+use Rattle.closing.proofs.close as close-fn
+use Rattle.closing.proofs.CloseContract.{closes, close-says}
+use Rattle.shares.proofs.share_loss as loss-fn
+use Rattle.shares.proofs.LossContract.{losses, share-loss-says}
+use Rattle.day.proofs.SheetContract.{sheets, sheet-says}
+use Rattle.teller.proofs.TellerContracts.{windowDeposits, windowWithdrawals, deposit-permits, withdraw-permits}
 use Rattle.tight.specs.Small.{opening, short}
-use Rattle.tight.specs.Numbers.{Refuses, Accepts, closeAt, acceptances}
+use Rattle.tight.specs.Numbers.{Refuses, Accepts, acceptances}
 use Rattle.tight.specs.PaperSheet.{input, output, the-sheet, no-text}
 
--- a function from the words at entry to its reply and the words at exit; it meets a call's contract
+-- a function from the words at entry to its reply and the words at exit
 abbrev pub Program : Type 0
 Program = List ℤ → Reply × List ℤ
 
-abbrev pub Meets : Rule Reply → Program → Type 0
-Meets rule f = (W : List ℤ) → f W ≡ perform byAccount W rule
+-- what a contract permits, of words lent for change, a reply, and the words at exit
+abbrev pub Permitted : Type 2
+Permitted = RefT (List ℤ) → Reply → RefT (List ℤ) → Type 1
+
+-- the function meets it
+abbrev pub Meets : Permitted → Program → Type 1
+Meets permits f = (l : RefT (List ℤ)) → permits l (f (now l) .0) (at-last l (f (now l) .1))
+
+-- what it permits is what a rule gives
+abbrev pub ByRule : Permitted → Rule Reply → Type 1
+ByRule permits rule = (l : RefT (List ℤ)) (r : Reply) (z : RefT (List ℤ)) → permits l r z → (r, now z) ≡ perform byAccount (now l) rule
+
+-- a value, lent from some place
+abbrev lent : {X : Type 0} → X → RefT X
+lent x = record { ptr = (0, 0); name = 0; now = x }
+
+-- then so does the function
+pub met : {permits : Permitted} (rule : Rule Reply) → ByRule permits rule → (f : Program) → Meets permits f → (W : List ℤ) → f W ≡ perform byAccount W rule
+met rule by f m W = by (lent W) _ _ (m (lent W))
 
 -- the size of the word i
 abbrev pub sizeAt : List ℤ → ℕ → ℕ
 sizeAt W i = natAbs (getD W i (pos 0))
 
--- three of the four, of any function f that meets the rule
-pub record NotEmpty (rule : Rule Reply) : Type 0 where
-  pub not-refusing : (f : Program) → Meets rule f → ((Y : List ℤ) → f Y .0 .number ≡ 0 → ⊥) → ⊥
-  pub not-constant : (f : Program) → Meets rule f → (r : Reply) → ((Y : List ℤ) → f Y .0 ≡ r) → ⊥
-  pub not-idle : (f : Program) → Meets rule f → ((Y : List ℤ) → f Y .1 ≡ Y) → ⊥
+-- three of the four, of any function f that meets the contract
+pub record NotEmpty (permits : Permitted) : Type 1 where
+  pub not-refusing : (f : Program) → Meets permits f → ((Y : List ℤ) → f Y .0 .number ≡ 0 → ⊥) → ⊥
+  pub not-constant : (f : Program) → Meets permits f → (r : Reply) → ((Y : List ℤ) → f Y .0 ≡ r) → ⊥
+  pub not-idle : (f : Program) → Meets permits f → ((Y : List ℤ) → f Y .1 ≡ Y) → ⊥
 
 -- no words at all are refused with 1, whatever the rule
 pub no-words : (rule : Rule Reply) → Refuses [] rule 1 (pos 0)
@@ -55,104 +84,140 @@ unfolding soundBy performBy
 no-words rule = refl
 
 -- it is enough that the rule is accepted once, and changes the word i
-pub not-empty : (rule : Rule Reply) (W X : List ℤ) (z : ℤ) → Accepts W rule z X → (i : ℕ) → eqb (sizeAt X i) (sizeAt W i) ≡ false → NotEmpty rule
-not-empty rule W X z a i d = record {
-  not-refusing = λ f m never. never W (ap (λ p. p .0 .number) (m W ∙ a));
+pub not-empty : {permits : Permitted} (rule : Rule Reply) (W X : List ℤ) (z : ℤ) → ByRule permits rule → Accepts W rule z X
+    → (i : ℕ) → eqb (sizeAt X i) (sizeAt W i) ≡ false → NotEmpty permits
+not-empty rule W X z by a i d = record {
+  not-refusing = λ f m never. never W (ap (λ p. p .0 .number) (met rule by f m W ∙ a));
   not-constant = λ f m r same.
-      let h : r .number ≡ 0 = sym (ap (λ q. q .number) (same W)) ∙ ap (λ p. p .0 .number) (m W ∙ a) in
-      let k : r .number ≡ 1 = sym (ap (λ q. q .number) (same [])) ∙ ap (λ p. p .0 .number) (m [] ∙ no-words rule) in
+      let h : r .number ≡ 0 = sym (ap (λ q. q .number) (same W)) ∙ ap (λ p. p .0 .number) (met rule by f m W ∙ a) in
+      let k : r .number ≡ 1 = sym (ap (λ q. q .number) (same [])) ∙ ap (λ p. p .0 .number) (met rule by f m [] ∙ no-words rule) in
       absurd (omega arith);
   not-idle = λ f m stays.
-      let e : X ≡ W = sym (ap (λ p. p .1) (m W ∙ a)) ∙ stays W in
+      let e : X ≡ W = sym (ap (λ p. p .1) (met rule by f m W ∙ a)) ∙ stays W in
       clash (eq-eqb (sizeAt X i) (sizeAt W i) (ap (λ Y. sizeAt Y i) e)) d;
 }
 
--- ---- each call that changes the ledger, with the word that changes in its line of `acceptances`
+-- ---- each call that changes the ledger, with the parameters of its line of `acceptances` and the word that changes there
 
--- the broker's cash
-pub deposit : NotEmpty (depositRule (pos 0) (pos 10))
-deposit = not-empty _ _ _ _ (acceptances .deposit) 10 refl
+module _ (w : World) (κs : Lfts 1) where
+  -- the broker's cash
+  pub deposit : NotEmpty (λ l r z. Permits deposits w κs (l, (pos 0, (pos 10, tt))) r (z, (pos 0, (pos 10, tt))))
+  deposit = not-empty _ _ _ _ (λ l r z. means deposit-says w) (acceptances .deposit) 10 refl
 
-pub withdrawal : NotEmpty (withdrawRule (pos 0) (pos 50000))
-withdrawal = not-empty _ _ _ _ (acceptances .withdrawal) 10 refl
+  pub withdrawal : NotEmpty (λ l r z. Permits withdrawals w κs (l, (pos 0, (pos 50000, tt))) r (z, (pos 0, (pos 50000, tt))))
+  withdrawal = not-empty _ _ _ _ (λ l r z. means withdraw-says w) (acceptances .withdrawal) 10 refl
 
--- its guarantee
-pub guarantee : NotEmpty (guaranteeRule (pos 0) (pos 1000001) (pos 1000001))
-guarantee = not-empty _ _ _ _ (acceptances .guarantee) 11 refl
+  -- its guarantee
+  pub guarantee : NotEmpty (λ l r z. Permits guarantees w κs (l, (pos 0, (pos 1000001, (pos 1000001, tt)))) r (z, (pos 0, (pos 1000001, (pos 1000001, tt)))))
+  guarantee = not-empty _ _ _ _ (λ l r z. means guarantee-says w) (acceptances .guarantee) 11 refl
 
--- its lots
-pub trade : NotEmpty (tradeRule (pos 0) (pos 1) (pos 0) (pos 2) (pos 1502500))
-trade = not-empty _ _ _ _ (acceptances .trade) 17 refl
+  -- its lots
+  pub trade : NotEmpty
+      (λ l r z. Permits trades w κs (l, (pos 0, (pos 1, (pos 0, (pos 2, (pos 1502500, tt)))))) r (z, (pos 0, (pos 1, (pos 0, (pos 2, (pos 1502500, tt)))))))
+  trade = not-empty _ _ _ _ (λ l r z. means trade-says w) (acceptances .trade) 17 refl
 
--- the phase
-pub begin : NotEmpty beginRule
-begin = not-empty _ _ _ _ (acceptances .begin) 2 refl
+  -- the phase
+  pub begin : NotEmpty (λ l r z. Permits begins w κs (l, tt) r (z, tt))
+  begin = not-empty _ _ _ _ (λ l r z. means begin-says w) (acceptances .begin) 2 refl
 
--- the broker's due 0
-pub step : NotEmpty stepRule
-step = not-empty _ _ _ _ (acceptances .step) 14 refl
+  -- the broker's due 0
+  abbrev Stepped : Permitted
+  Stepped l r z = Permits steps w κs (l, tt) r (z, tt)
 
--- its due 0
-pub close : NotEmpty closeAt
-close = not-empty _ _ _ _ (acceptances .close) 14 refl
+  by-step : ByRule Stepped stepRule
+  by-step l r z = means step-says w
 
--- ---- the fourth: all dues at the first step, and idle after
+  pub step : NotEmpty Stepped
+  step = not-empty _ _ _ _ by-step (acceptances .step) 14 refl
 
--- the first step leaves the provider's due 0, the word 24, as it was: 200,000 to pay
-pub not-all-at-once : (f : Program) → Meets stepRule f → sizeAt (f (opening (pos 1)) .1) 24 ≡ 200000
-not-all-at-once f m = ap (λ p. sizeAt (p .1) 24) (m (opening (pos 1)) ∙ acceptances .step)
+  -- ---- the fourth: all dues at the first step, and idle after
 
--- the second is the one that settles it
-pub not-idle-after : (f : Program) → Meets stepRule f → sizeAt (f (f (opening (pos 1)) .1) .1) 24 ≡ 0
-not-idle-after f m = ap (λ p. sizeAt (f (p .1) .1) 24) (m (opening (pos 1)) ∙ acceptances .step) ∙ ap (λ p. sizeAt (p .1) 24) (m _ ∙ acceptances .last-step)
+  -- the first step leaves the provider's due 0, the word 24, as it was: 200,000 to pay
+  pub not-all-at-once : (f : Program) → Meets Stepped f → sizeAt (f (opening (pos 1)) .1) 24 ≡ 200000
+  not-all-at-once f m = ap (λ p. sizeAt (p .1) 24) (met stepRule by-step f m (opening (pos 1)) ∙ acceptances .step)
+
+  -- the second is the one that settles it
+  pub not-idle-after : (f : Program) → Meets Stepped f → sizeAt (f (f (opening (pos 1)) .1) .1) 24 ≡ 0
+  not-idle-after f m =
+      ap (λ p. sizeAt (f (p .1) .1) 24) (met stepRule by-step f m (opening (pos 1)) ∙ acceptances .step)
+      ∙ ap (λ p. sizeAt (p .1) 24) (met stepRule by-step f m _ ∙ acceptances .last-step)
+
+-- the broker's due 0; the lists are those of `closeAt`
+abbrev closing : (κs : Lfts 5) → RefT (List ℤ) → Args close-fn.signature κs
+closing κs l = (l, (lent (pos 1502600 ∷ []), (lent (pos 400 ∷ []), (lent (pos 400 ∷ []), (lent (pos 0 ∷ []), tt)))))
+
+pub close : (w : World) (κs : Lfts 5) → NotEmpty (λ l r z. Permits closes w κs (closing κs l) r (closing κs z))
+close w κs = not-empty _ _ _ _ (λ l r z. means close-says w) (acceptances .close) 14 refl
 
 -- ---- what leaves the ledger alone by right, and what has no ledger
 
 -- a question about the account 0: limits 0 and 50,000 on two ledgers
-module _ (f : List ℤ → Standing) (m : (W : List ℤ) → (f W, W) ≡ ask byAccount W (questionRule (pos 0))) where
+module _ (w : World) (κs : Lfts 1) (f : List ℤ → Standing)
+    (meets : (l : RefT (List ℤ)) → Permits questions w κs (l, (pos 0, tt)) (f (now l)) (l, (pos 0, tt))) where
+  question-met : (W : List ℤ) → (f W, W) ≡ ask byAccount W (questionRule (pos 0))
+  question-met W = means question-says w (meets (lent W))
+
   pub question-not-refusing : ((Y : List ℤ) → f Y .number ≡ 0 → ⊥) → ⊥
-  question-not-refusing never = never short (ap (λ p. p .0 .number) (m short ∙ acceptances .question))
+  question-not-refusing never = never short (ap (λ p. p .0 .number) (question-met short ∙ acceptances .question))
 
   pub question-not-constant : (r : Standing) → ((Y : List ℤ) → f Y ≡ r) → ⊥
   question-not-constant r same =
-      let h : natAbs (r .limit) ≡ 0 = sym (ap (λ q. natAbs (q .limit)) (same short)) ∙ ap (λ p. natAbs (p .0 .limit)) (m short ∙ acceptances .question) in
-      let k : natAbs (r .limit) ≡ 50000 = sym (ap (λ q. natAbs (q .limit)) (same (opening (pos 0)))) ∙ ap (λ p. natAbs (p .0 .limit)) (m (opening (pos 0)) ∙ acceptances .question-limit) in
+      let h : natAbs (r .limit) ≡ 0 = sym (ap (λ q. natAbs (q .limit)) (same short)) ∙ ap (λ p. natAbs (p .0 .limit)) (question-met short ∙ acceptances .question) in
+      let k : natAbs (r .limit) ≡ 50000 = sym (ap (λ q. natAbs (q .limit)) (same (opening (pos 0)))) ∙ ap (λ p. natAbs (p .0 .limit)) (question-met (opening (pos 0)) ∙ acceptances .question-limit) in
       absurd (omega arith)
 
--- the loss of 01, and one below 0
-module _ (f : ℤ → Reply × List ℤ × List ℤ) (m : (loss : ℤ) → f loss ≡ lossShared loss deposits differences marks blank blank) where
+-- the loss of 01, and one below 0: the parameters, with the lists lent for the shares
+abbrev sharing : (κs : Lfts 5) → ℤ → List ℤ → List ℤ → Args loss-fn.signature κs
+sharing κs loss first second = (loss, (lent member-deposits, (lent differences, (lent marks, (lent first, (lent second, tt))))))
+
+module _ (w : World) (κs : Lfts 5) (f : ℤ → Reply × List ℤ × List ℤ)
+    (meets : (loss : ℤ) → Permits losses w κs (sharing κs loss blank blank) (f loss .0) (sharing κs loss (f loss .1) (f loss .2))) where
+  loss-met : (loss : ℤ) → f loss ≡ lossShared loss member-deposits differences marks blank blank
+  loss-met loss = means share-loss-says w (meets loss)
+
   pub loss-not-refusing : ((loss : ℤ) → f loss .0 .number ≡ 0 → ⊥) → ⊥
-  loss-not-refusing never = never (pos 12000000) (ap (λ p. p .0 .number) (m (pos 12000000) ∙ worked))
+  loss-not-refusing never = never (pos 12000000) (ap (λ p. p .0 .number) (loss-met (pos 12000000) ∙ worked))
 
   pub loss-not-constant : (r : Reply) → ((loss : ℤ) → f loss .0 ≡ r) → ⊥
   loss-not-constant r same =
-      let h : r .number ≡ 0 = sym (ap (λ q. q .number) (same (pos 12000000))) ∙ ap (λ p. p .0 .number) (m (pos 12000000) ∙ worked) in
-      let k : r .number ≡ 5 = sym (ap (λ q. q .number) (same (negsuc 0))) ∙ ap (λ p. p .0 .number) (m (negsuc 0) ∙ refused) in
+      let h : r .number ≡ 0 = sym (ap (λ q. q .number) (same (pos 12000000))) ∙ ap (λ p. p .0 .number) (loss-met (pos 12000000) ∙ worked) in
+      let k : r .number ≡ 5 = sym (ap (λ q. q .number) (same (negsuc 0))) ∙ ap (λ p. p .0 .number) (loss-met (negsuc 0) ∙ refused) in
       absurd (omega arith)
 
   pub loss-not-idle : ((loss : ℤ) → f loss .1 ≡ blank) → ⊥
   loss-not-idle same =
-      let h : _≡_ {A = ℕ} 7 5000000 = sym (ap (λ l. sizeAt l 0) (same (pos 12000000))) ∙ ap (λ p. sizeAt (p .1) 0) (m (pos 12000000) ∙ worked) in
+      let h : _≡_ {A = ℕ} 7 5000000 = sym (ap (λ l. sizeAt l 0) (same (pos 12000000))) ∙ ap (λ p. sizeAt (p .1) 0) (loss-met (pos 12000000) ∙ worked) in
       absurd (omega arith)
 
 -- ---- the teller's two, on a record: a call that is taken and moves the cash, and a record that is not sound
 abbrev pub Window : Type 0
 Window = Account → Reply × Account
 
-pub record WindowNotEmpty (call : Account → Taken) : Type 0 where
-  pub not-refusing : (f : Window) → ((a : Account) → f a ≡ (replyOf (call a), call a .account)) → ((a : Account) → f a .0 .number ≡ 0 → ⊥) → ⊥
-  pub not-constant : (f : Window) → ((a : Account) → f a ≡ (replyOf (call a), call a .account)) → (r : Reply) → ((a : Account) → f a .0 ≡ r) → ⊥
-  pub not-idle : (f : Window) → ((a : Account) → f a ≡ (replyOf (call a), call a .account)) → ((a : Account) → f a .1 ≡ a) → ⊥
+-- what a window's contract permits, of a record lent for change, a reply, and the record at exit
+abbrev pub AtWindow : Type 2
+AtWindow = RefT Account → Reply → RefT Account → Type 1
 
-pub window-not-empty : (call : Account → Taken) (good bad : Account) → call good .number ≡ 0 → call bad .number ≡ 1 → eqb (natAbs (call good .account .cash)) (natAbs (good .cash)) ≡ false → WindowNotEmpty call
-window-not-empty call good bad t u d = record {
-  not-refusing = λ f m never. never good (ap (λ p. p .0 .number) (m good) ∙ t);
+abbrev pub WindowMeets : AtWindow → Window → Type 1
+WindowMeets permits f = (l : RefT Account) → permits l (f (now l) .0) (at-last l (f (now l) .1))
+
+pub record WindowNotEmpty (permits : AtWindow) : Type 1 where
+  pub not-refusing : (f : Window) → WindowMeets permits f → ((a : Account) → f a .0 .number ≡ 0 → ⊥) → ⊥
+  pub not-constant : (f : Window) → WindowMeets permits f → (r : Reply) → ((a : Account) → f a .0 ≡ r) → ⊥
+  pub not-idle : (f : Window) → WindowMeets permits f → ((a : Account) → f a .1 ≡ a) → ⊥
+
+pub window-not-empty : {permits : AtWindow} (call : Account → Taken)
+    → ((l : RefT Account) (r : Reply) (z : RefT Account) → permits l r z → (r ≡ replyOf (call (now l))) × (now z ≡ call (now l) .account))
+    → (good bad : Account) → call good .number ≡ 0 → call bad .number ≡ 1 → eqb (natAbs (call good .account .cash)) (natAbs (good .cash)) ≡ false
+    → WindowNotEmpty permits
+window-not-empty call by good bad t u d = record {
+  not-refusing = λ f m never. never good (ap (λ q. q .number) (by (lent good) _ _ (m (lent good)) .0) ∙ t);
   not-constant = λ f m r same.
-      let h : r .number ≡ 0 = sym (ap (λ q. q .number) (same good)) ∙ ap (λ p. p .0 .number) (m good) ∙ t in
-      let k : r .number ≡ 1 = sym (ap (λ q. q .number) (same bad)) ∙ ap (λ p. p .0 .number) (m bad) ∙ u in
+      let h : r .number ≡ 0 = sym (ap (λ q. q .number) (same good)) ∙ ap (λ q. q .number) (by (lent good) _ _ (m (lent good)) .0) ∙ t in
+      let k : r .number ≡ 1 = sym (ap (λ q. q .number) (same bad)) ∙ ap (λ q. q .number) (by (lent bad) _ _ (m (lent bad)) .0) ∙ u in
       absurd (omega arith);
   not-idle = λ f m stays.
-      let e : natAbs (call good .account .cash) ≡ natAbs (good .cash) = sym (ap (λ p. natAbs (p .1 .cash)) (m good)) ∙ ap (λ a. natAbs (a .cash)) (stays good) in
+      let e : natAbs (call good .account .cash) ≡ natAbs (good .cash) =
+      sym (ap (λ a. natAbs (a .cash)) (by (lent good) _ _ (m (lent good)) .1)) ∙ ap (λ a. natAbs (a .cash)) (stays good) in
       clash (eq-eqb _ _ e) d;
 }
 
@@ -160,18 +225,26 @@ window-not-empty call good bad t u d = record {
 abbrev record-of : ℤ → Account
 record-of kind = record { kind = kind; cash = pos 50000; guarantee = pos 0; cap = pos 0; margin = pos 0; due0 = pos 0; due1 = pos 0; due2 = pos 0 }
 
-pub teller-deposit : WindowNotEmpty (λ a. tellerDeposit a (pos 10))
-unfolding tellerDeposit deposited accountOk
-teller-deposit = window-not-empty _ (record-of (pos 0)) (record-of (pos 2)) refl refl refl
+module _ (w : World) (κs : Lfts 1) where
+  pub teller-deposit : WindowNotEmpty (λ l r z. Permits windowDeposits w κs (l, (pos 10, tt)) r (z, (pos 10, tt)))
+  unfolding tellerDeposit deposited accountOk
+  teller-deposit =
+      window-not-empty (λ a. tellerDeposit a (pos 10)) (λ l r z. means deposit-permits w) (record-of (pos 0)) (record-of (pos 2)) refl refl refl
 
-pub teller-withdrawal : WindowNotEmpty (λ a. tellerWithdrawal a (pos 10))
-unfolding tellerWithdrawal withdrawn accountOk limitOf excessOne excessTwo depositOf lgValue requiredOf minZ maxZ floorDiv takesAway
-teller-withdrawal = window-not-empty _ (record-of (pos 0)) (record-of (pos 2)) refl refl refl
+  pub teller-withdrawal : WindowNotEmpty (λ l r z. Permits windowWithdrawals w κs (l, (pos 10, tt)) r (z, (pos 10, tt)))
+  unfolding tellerWithdrawal withdrawn accountOk limitOf excessOne excessTwo depositOf lgValue requiredOf minZ maxZ floorDiv takesAway
+  teller-withdrawal =
+      window-not-empty (λ a. tellerWithdrawal a (pos 10)) (λ l r z. means withdraw-permits w) (record-of (pos 0)) (record-of (pos 2)) refl refl refl
 
 -- ---- the sheet: the paper's text and no text at all, in any list that has room
-module _ (f : List ℕ → List ℕ → ℕ × List ℕ) (m : (text out : List ℕ) → f text out ≡ answerOf (sheetOf theLedger text) out) (out : List ℕ) (fits : 65536 ≤ length out) where
+module _ (w : World) (κs : Lfts 2) (f : List ℕ → List ℕ → ℕ × List ℕ)
+    (meets : (text out : List ℕ) → Permits sheets w κs (lent text, (lent out, tt)) (f text out .0) (lent text, (lent (f text out .1), tt)))
+    (out : List ℕ) (fits : 65536 ≤ length out) where
+  sheet-met : (text out : List ℕ) → f text out ≡ answerOf (sheetOf theLedger text) out
+  sheet-met text out = means sheet-says w (meets text out)
+
   written : (text sheet : List ℕ) → sheetOf theLedger text ≡ sheet → f text out ≡ (length sheet, sheet ++ drop (length sheet) out)
-  written text sheet e = m text out ∙ rw (e, le-ltb (length out) 65536 fits) refl
+  written text sheet e = sheet-met text out ∙ rw (e, le-ltb (length out) 65536 fits) refl
 
   pub sheet-not-constant : (r : ℕ) → ((text : List ℕ) → f text out .0 ≡ r) → ⊥
   sheet-not-constant r same =

@@ -1,23 +1,19 @@
--- 01, "How tight a contract has to be": any two results that a public contract permits coincide. Each contract is an equation, result ≡ f(entry), and
--- asks nothing; so for all input, refusals too, there is one number, one figure and one content of each list at exit. One line for each entry point,
--- with the contract as its function states it, twice. Assumes nothing.
-use mathlib.Core.Path.{_≡_, ap, _∙⁻¹_}
+-- 01, "How tight a contract has to be": any two results that a public contract permits coincide. Each contract asks nothing and is an equation, result ≡
+-- f(entry): its crate shows so of the function's own clauses (`..-says`). So for all input, refusals too, there is one number, one figure and one content
+-- of each list at exit. One line for each entry point, with its own contract, twice, and what it leaves of what it was lent. Assumes nothing.
+use mathlib.Core.Path.{_≡_, refl, ap, _∙⁻¹_}
 use mathlib.Core.List.{List}
-use Prim.Native.Nat.{ℕ}
 use lib.IntN.{ℤ}
-use Rattle.rules.specs.declared.Account.{Account}
-use Rattle.rules.specs.declared.Reply.{Reply}
-use Rattle.rules.specs.declared.Standing.{Standing}
-use Rattle.rules.specs.AccountCalls.{replyOf, tellerDeposit, tellerWithdrawal}
-use Rattle.places.specs.ByAccount.{byAccount}
-use Rattle.soundness.specs.Perform.{perform, ask}
-use Rattle.acts.specs.Requests.{depositRule, withdrawRule, guaranteeRule, questionRule}
-use Rattle.acts.specs.Trade.{tradeRule}
-use Rattle.acts.specs.Run.{beginRule, stepRule}
-use Rattle.closing.specs.Close.{closeRule}
-use Rattle.shares.specs.Loss.{lossShared}
-use Rattle.day.specs.Sheet.{sheetOf, answerOf}
-use Rattle.calls.specs.Ledger.{theLedger}
+use denote.Ref.{now}
+use denote.Triple.Entry.{Args, Res}
+use denote.Triple.Clauses.{Ended, AtExit}
+use Rattle.contracts.specs.Says.{World, Lives, Contract, Says, Permits, means}
+use Rattle.ledger.proofs.LedgerContracts.{deposits, withdrawals, guarantees, questions, trades, begins, steps}
+use Rattle.ledger.proofs.LedgerContracts.{deposit-says, withdraw-says, guarantee-says, question-says, trade-says, begin-says, step-says}
+use Rattle.closing.proofs.CloseContract.{closes, close-says}
+use Rattle.shares.proofs.LossContract.{losses, share-loss-says}
+use Rattle.day.proofs.SheetContract.{sheets, sheet-says}
+use Rattle.teller.proofs.TellerContracts.{windowDeposits, windowWithdrawals, deposit-permits, withdraw-permits}
 
 -- ---- the lemma: two results that an equation permits coincide, part by part
 
@@ -27,55 +23,63 @@ one only h i = h ∙⁻¹ i
 pub one-pair : {A B : Type 0} {a a′ : A} {b b′ : B} (only : A × B) → (a, b) ≡ only → (a′, b′) ≡ only → (a ≡ a′) × (b ≡ b′)
 one-pair only h i = (ap (λ p. p .0) (one only h i), ap (λ p. p .1) (one only h i))
 
--- ---- the calls on the ledger: r and r′ are replies, z and z′ the words at exit, from the same words W at entry
+-- of the same parameters at entry, whatever the one contract permits and whatever the other permits coincide: the result, and what is left
+abbrev pub Coincide : {T : Ended} → Contract T → Contract T → {X : Type 0} → ((κs : Lives T) → AtExit T κs → X) → Type 2
+Coincide {T = T} c d left = (w : World) (κs : Lives T) (a : Args (T .signature) κs) (r r′ : Res (T .signature) κs) (z z′ : AtExit T κs)
+    → Permits c w κs a r z → Permits d w κs a r′ z′ → (r ≡ r′) × (left κs z ≡ left κs z′)
 
-module _ (W z z′ : List ℤ) (r r′ : Reply) where
-  pub deposit : (a x : ℤ) → (r, z) ≡ perform byAccount W (depositRule a x) → (r′, z′) ≡ perform byAccount W (depositRule a x) → (r ≡ r′) × (z ≡ z′)
-  deposit a x = one-pair (perform byAccount W (depositRule a x))
+-- a contract that is an equation, with itself
+by-equation : {T : Ended} {c : Contract T} {X : Type 0} {left : (κs : Lives T) → AtExit T κs → X}
+    {only : (κs : Lives T) → Args (T .signature) κs → Res (T .signature) κs × X} → Says c (λ κs a r z. (r, left κs z) ≡ only κs a) → Coincide c c left
+by-equation says w κs a r r′ z z′ p q = one-pair _ (means says w p) (means says w q)
 
-  pub withdraw : (a x : ℤ) → (r, z) ≡ perform byAccount W (withdrawRule a x) → (r′, z′) ≡ perform byAccount W (withdrawRule a x) → (r ≡ r′) × (z ≡ z′)
-  withdraw a x = one-pair (perform byAccount W (withdrawRule a x))
+-- ---- the calls on the ledger leave the words
 
-  pub guarantee : (a x y : ℤ) → (r, z) ≡ perform byAccount W (guaranteeRule a x y) → (r′, z′) ≡ perform byAccount W (guaranteeRule a x y) → (r ≡ r′) × (z ≡ z′)
-  guarantee a x y = one-pair (perform byAccount W (guaranteeRule a x y))
+pub deposit : Coincide deposits deposits (λ _ z. now (z .0))
+deposit = by-equation deposit-says
 
-  pub trade : (b s j q t : ℤ) → (r, z) ≡ perform byAccount W (tradeRule b s j q t) → (r′, z′) ≡ perform byAccount W (tradeRule b s j q t) → (r ≡ r′) × (z ≡ z′)
-  trade b s j q t = one-pair (perform byAccount W (tradeRule b s j q t))
+pub withdraw : Coincide withdrawals withdrawals (λ _ z. now (z .0))
+withdraw = by-equation withdraw-says
 
-  pub begin : (r, z) ≡ perform byAccount W beginRule → (r′, z′) ≡ perform byAccount W beginRule → (r ≡ r′) × (z ≡ z′)
-  begin = one-pair (perform byAccount W beginRule)
+pub guarantee : Coincide guarantees guarantees (λ _ z. now (z .0))
+guarantee = by-equation guarantee-says
 
-  pub step : (r, z) ≡ perform byAccount W stepRule → (r′, z′) ≡ perform byAccount W stepRule → (r ≡ r′) × (z ≡ z′)
-  step = one-pair (perform byAccount W stepRule)
+pub trade : Coincide trades trades (λ _ z. now (z .0))
+trade = by-equation trade-says
 
-  -- the four lists that a close reads: prices, 8-week rates, 104-week rates, lags
-  pub close : (t q u v : List ℤ) → (r, z) ≡ perform byAccount W (closeRule t q u v) → (r′, z′) ≡ perform byAccount W (closeRule t q u v) → (r ≡ r′) × (z ≡ z′)
-  close t q u v = one-pair (perform byAccount W (closeRule t q u v))
+pub begin : Coincide begins begins (λ _ z. now (z .0))
+begin = by-equation begin-says
 
--- a question only reads: its contract speaks of the words at entry, and has one answer
-pub question : (W : List ℤ) (r r′ : Standing) (a : ℤ) → (r, W) ≡ ask byAccount W (questionRule a) → (r′, W) ≡ ask byAccount W (questionRule a) → r ≡ r′
-question W r r′ a h i = one-pair (ask byAccount W (questionRule a)) h i .0
+pub step : Coincide steps steps (λ _ z. now (z .0))
+step = by-equation step-says
 
--- ---- loss sharing: the reply and both lists of shares, from the lists f and s that were lent for them
+pub close : Coincide closes closes (λ _ z. now (z .0))
+close = by-equation close-says
 
-pub share-loss : (loss : ℤ) (deposits differences marks f s y y′ z z′ : List ℤ) (r r′ : Reply)
-    → (r, y, z) ≡ lossShared loss deposits differences marks f s → (r′, y′, z′) ≡ lossShared loss deposits differences marks f s
-    → (r ≡ r′) × (y ≡ y′) × (z ≡ z′)
-share-loss loss deposits differences marks f s y y′ z z′ r r′ h i =
-    let e = one (lossShared loss deposits differences marks f s) h i in (ap (λ p. p .0) e, ap (λ p. p .1) e, ap (λ p. p .2) e)
+-- a question only reads: it leaves nothing
+pub question : Coincide questions questions {X = Unit {0}} (λ _ _. tt)
+question w κs a r r′ z z′ p q = (one-pair _ (means question-says w p) (means question-says w q) .0, refl)
 
--- ---- the sheet: its length and the bytes lent for it, from any text
+-- ---- loss sharing leaves both lists of shares
 
-pub sheet : (text out z z′ : List ℕ) (r r′ : ℕ) → (r, z) ≡ answerOf (sheetOf theLedger text) out → (r′, z′) ≡ answerOf (sheetOf theLedger text) out → (r ≡ r′) × (z ≡ z′)
-sheet text out z z′ r r′ = one-pair (answerOf (sheetOf theLedger text) out)
+pub share-loss : Coincide losses losses {X = List ℤ × List ℤ} (λ _ z. (now (z .1 .1 .1 .1 .0), now (z .1 .1 .1 .1 .1 .0)))
+share-loss w κs a r r′ z z′ p q =
+    let e = one _ (means share-loss-says w p) (means share-loss-says w q) in (ap (λ l. l .0) e, ap (λ l. (l .1, l .2)) e)
 
--- ---- the teller window: the reply and the record at exit
+-- ---- the sheet leaves the list lent for it
 
-module _ (before after after′ : Account) (r r′ : Reply) (x : ℤ) where
-  pub teller-deposit : (r ≡ replyOf (tellerDeposit before x)) × (after ≡ tellerDeposit before x .account)
-      → (r′ ≡ replyOf (tellerDeposit before x)) × (after′ ≡ tellerDeposit before x .account) → (r ≡ r′) × (after ≡ after′)
-  teller-deposit h i = (one (replyOf (tellerDeposit before x)) (h .0) (i .0), one (tellerDeposit before x .account) (h .1) (i .1))
+pub sheet : Coincide sheets sheets (λ _ z. now (z .1 .0))
+sheet = by-equation sheet-says
 
-  pub teller-withdraw : (r ≡ replyOf (tellerWithdrawal before x)) × (after ≡ tellerWithdrawal before x .account)
-      → (r′ ≡ replyOf (tellerWithdrawal before x)) × (after′ ≡ tellerWithdrawal before x .account) → (r ≡ r′) × (after ≡ after′)
-  teller-withdraw h i = (one (replyOf (tellerWithdrawal before x)) (h .0) (i .0), one (tellerWithdrawal before x .account) (h .1) (i .1))
+-- ---- the teller's two leave the record; their contracts are two equations each
+
+by-two : {T : Ended} {c : Contract T} {X : Type 0} {left : (κs : Lives T) → AtExit T κs → X}
+    {first : (κs : Lives T) → Args (T .signature) κs → Res (T .signature) κs} {second : (κs : Lives T) → Args (T .signature) κs → X}
+    → Says c (λ κs a r z. (r ≡ first κs a) × (left κs z ≡ second κs a)) → Coincide c c left
+by-two says w κs a r r′ z z′ p q = let h = means says w p in let i = means says w q in (one _ (h .0) (i .0), one _ (h .1) (i .1))
+
+pub teller-deposit : Coincide windowDeposits windowDeposits (λ _ z. now (z .0))
+teller-deposit = by-two deposit-permits
+
+pub teller-withdraw : Coincide windowWithdrawals windowWithdrawals (λ _ z. now (z .0))
+teller-withdraw = by-two withdraw-permits

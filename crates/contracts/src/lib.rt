@@ -1,0 +1,1 @@
+// What a contract says, of any function. Specifications alone: nothing here runs.
