@@ -5,7 +5,7 @@ use mathlib.Core.List.{List, [], _∷_}
 use mathlib.Core.Bool.{true}
 use lib.IntN.{ℤ, pos}
 use denote.Ref.{now}
-use Rattle.contracts.specs.Says.{World, Call, means}
+use Rattle.contracts.specs.Says.{World, CallOf, means}
 use Rattle.places.specs.ByAccount.{byAccount}
 use Rattle.places.specs.Act.{shapeOf}
 use Rattle.soundness.specs.Sound.{sound}
@@ -21,18 +21,18 @@ use Rattle.stretches.specs.CallChains.{Called, none, call, Same, demand-
 module _ (w : World) where
   -- a call of an event's function: the words at its entry, the event, its answer, the words at its exit. Its parameters are those of the source, in their order
   pub data Made : List ℤ → Event → Answer → List ℤ → Type 1 where
-    deposited : (c : Call deposits w) → Made (now (c .entry .0)) (asks (c .entry .1 .0) (deposit (c .entry .1 .1 .0))) (said (c .result)) (now (c .exit .0))
-    withdrawn : (c : Call withdrawals w) → Made (now (c .entry .0)) (asks (c .entry .1 .0) (withdrawal (c .entry .1 .1 .0))) (said (c .result)) (now (c .exit .0))
-    guaranteed : (c : Call guarantees w)
+    deposited : (c : CallOf deposits w) → Made (now (c .entry .0)) (asks (c .entry .1 .0) (deposit (c .entry .1 .1 .0))) (said (c .result)) (now (c .exit .0))
+    withdrawn : (c : CallOf withdrawals w) → Made (now (c .entry .0)) (asks (c .entry .1 .0) (withdrawal (c .entry .1 .1 .0))) (said (c .result)) (now (c .exit .0))
+    guaranteed : (c : CallOf guarantees w)
         → Made (now (c .entry .0)) (asks (c .entry .1 .0) (guarantee (c .entry .1 .1 .0) (c .entry .1 .1 .1 .0))) (said (c .result)) (now (c .exit .0))
     -- a question only reads: it leaves the words that it was lent
-    questioned : (c : Call questions w) → Made (now (c .entry .0)) (asks (c .entry .1 .0) question) (told (c .result)) (now (c .entry .0))
-    traded : (c : Call trades w)
+    questioned : (c : CallOf questions w) → Made (now (c .entry .0)) (asks (c .entry .1 .0) question) (told (c .result)) (now (c .entry .0))
+    traded : (c : CallOf trades w)
         → Made (now (c .entry .0)) (trade (c .entry .1 .0) (c .entry .1 .1 .0) (c .entry .1 .1 .1 .0) (c .entry .1 .1 .1 .1 .0) (c .entry .1 .1 .1 .1 .1 .0))
         (said (c .result)) (now (c .exit .0))
-    begun : (c : Call begins w) → Made (now (c .entry .0)) begin (said (c .result)) (now (c .exit .0))
-    stepped : (c : Call steps w) → Made (now (c .entry .0)) transfer (said (c .result)) (now (c .exit .0))
-    closed : (c : Call closes w)
+    begun : (c : CallOf begins w) → Made (now (c .entry .0)) begin (said (c .result)) (now (c .exit .0))
+    stepped : (c : CallOf steps w) → Made (now (c .entry .0)) transfer (said (c .result)) (now (c .exit .0))
+    closed : (c : CallOf closes w)
         → Made (now (c .entry .0)) (close (now (c .entry .1 .0)) (now (c .entry .1 .1 .0)) (now (c .entry .1 .1 .1 .0)) (now (c .entry .1 .1 .1 .1 .0)))
         (said (c .result)) (now (c .exit .0))
 

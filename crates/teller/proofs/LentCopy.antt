@@ -1,5 +1,5 @@
 -- The law of a record passed by value at a window. Let a rule take an account and an amount to a reply and the account after it (a `Taken`), and let
--- `callee` be a window whose theorem says that it answers by that rule (`Permits`). Then
+-- `callee` be a window whose theorem says that it answers by that rule (`WindowSays`). Then
 --     fn f(account: Account, x: i64) -> Taken {
 --         let mut lent = account;
 --         let reply = callee(&mut lent, x);
@@ -67,7 +67,7 @@ use Rattle.rules.specs.AccountCalls.{replyOf}
 use Rattle.rules.specs.declared.Account.{Account}
 use Rattle.rules.specs.declared.Reply.{Reply}
 use Rattle.rules.specs.declared.Taken.{Taken}
-use Rattle.teller.specs.Permits.{RecordRule, Permits}
+use Rattle.teller.specs.WindowRule.{RecordRule, WindowSays}
 use Rattle.rules.proofs.Account as AccountType
 use Rattle.rules.proofs.Account.Laws as AccountLaws
 use Rattle.rules.proofs.Taken as TakenType
@@ -83,7 +83,7 @@ abbrev pub window-clauses : RecordRule → {M : Type 1} (𝓤 : URA M) → Claus
 window-clauses rule 𝓤 κs a = record {
   ghost = Unit {0};
   requires = λ _. emp 𝓤;
-  ensures = λ _ r end. fact 𝓤 (Permits rule (now (a .0)) (a .1 .0) r (now (end .0)));
+  ensures = λ _ r end. fact 𝓤 (WindowSays rule (now (a .0)) (a .1 .0) r (now (end .0)));
 }
 
 abbrev Called : RecordRule → {M : Type 1} (𝓤 : URA M) (H : Heap 𝓤) (A : Atoms 𝓤) → Contract 𝓤
@@ -215,8 +215,8 @@ module _ (rule : RecordRule) (callee : Name) {M : Type 1} (𝓤 : URA M) (H : He
       ⊛ raw (ensured 𝓤 H A window-ended (window-clauses rule 𝓤) (α ∷ [], tt) (lent-args l δ) tt r)))) (id⊢ 𝓤 _) $ await ! tt $ pick ! (λ r.
       split ! $ move ! (1 ∷ []) $
       use1 W (some (λ (ws : Account × (Unit {0} × Unit {0})). ‵ (lasts window-ended (α ∷ [], tt) (lent-args l δ) ws)
-      ⊛ raw (fact 𝓤 (Permits rule before x r (ws .0))))) (id⊢ 𝓤 _) $ pick ! (λ ws.
-      split ! $ move ! (1 ∷ []) $ heard ! (Permits rule before x r (ws .0)) (λ by-rule. fsplit ! $
+      ⊛ raw (fact 𝓤 (WindowSays rule before x r (ws .0))))) (id⊢ 𝓤 _) $ pick ! (λ ws.
+      split ! $ move ! (1 ∷ []) $ heard ! (WindowSays rule before x r (ws .0)) (λ by-rule. fsplit ! $
       -- the record at last 0; nothing 1; the token and the reply 2
       rewrite ! 0 (λ (h : Account). ‵ (Last δ h)) (by-rule .1) refl $ move ! (2 ∷ []) $ split ! $
       rewrite ! 1 (λ (s : Reply). ‵ (Replied s w)) (by-rule .0) refl $ split ! $

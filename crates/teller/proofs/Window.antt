@@ -65,7 +65,7 @@ use denote.Triple.Walked.{Stays, stay-ref, stay-none, walkOf, goes-none, goes-re
 use Rattle.rules.specs.AccountCalls.{replyOf}
 use Rattle.rules.specs.declared.Account.{Account}
 use Rattle.rules.specs.declared.Taken.{Taken}
-use Rattle.teller.specs.Permits.{RecordRule}
+use Rattle.teller.specs.WindowRule.{RecordRule}
 use Rattle.rules.proofs.Account as AccountType
 use Rattle.rules.proofs.Account.Laws as AccountLaws
 use Rattle.rules.proofs.Taken as TakenType

@@ -9,7 +9,7 @@ use Rattle.rules.specs.AccountCalls.{withCash, refusedAt, deposited, withdrawn,
 use Rattle.rules.specs.AccountCallsLaws.{deposited-keeps, deposited-changes, deposited-refused, withdrawn-keeps, withdrawn-changes, withdrawn-refused}
 use Rattle.rules.specs.declared.Account.{Account}
 use Rattle.rules.specs.declared.Taken.{Taken}
-use Rattle.teller.specs.Permits.{RecordRule}
+use Rattle.teller.specs.WindowRule.{RecordRule}
 
 -- a window, over the day's rule for a sound account
 pub record AtWindow (window day : RecordRule) : Type 0 where

@@ -39,7 +39,7 @@ use Rattle.closing.proofs.CloseContract.{closes, close-says}
 use Rattle.shares.proofs.share_loss as loss-fn
 use Rattle.shares.proofs.LossContract.{losses, share-loss-says}
 use Rattle.day.proofs.SheetContract.{sheets, sheet-says}
-use Rattle.teller.proofs.TellerContracts.{windowDeposits, windowWithdrawals, deposit-permits, withdraw-permits}
+use Rattle.teller.proofs.TellerContracts.{windowDeposits, windowWithdrawals, teller-deposit-says, teller-withdraw-says}
 use Rattle.tight.specs.Small.{opening, short}
 use Rattle.tight.specs.Numbers.{Refuses, Accepts, acceptances}
 use Rattle.tight.specs.PaperSheet.{input, output, the-sheet, no-text}
@@ -229,12 +229,12 @@ module _ (w : World) (κs : Lfts 1) where
   pub teller-deposit : WindowNotEmpty (λ l r z. Permits windowDeposits w κs (l, (pos 10, tt)) r (z, (pos 10, tt)))
   unfolding tellerDeposit deposited accountOk
   teller-deposit =
-      window-not-empty (λ a. tellerDeposit a (pos 10)) (λ l r z. means deposit-permits w) (record-of (pos 0)) (record-of (pos 2)) refl refl refl
+      window-not-empty (λ a. tellerDeposit a (pos 10)) (λ l r z. means teller-deposit-says w) (record-of (pos 0)) (record-of (pos 2)) refl refl refl
 
   pub teller-withdrawal : WindowNotEmpty (λ l r z. Permits windowWithdrawals w κs (l, (pos 10, tt)) r (z, (pos 10, tt)))
   unfolding tellerWithdrawal withdrawn accountOk limitOf excessOne excessTwo depositOf lgValue requiredOf minZ maxZ floorDiv takesAway
   teller-withdrawal =
-      window-not-empty (λ a. tellerWithdrawal a (pos 10)) (λ l r z. means withdraw-permits w) (record-of (pos 0)) (record-of (pos 2)) refl refl refl
+      window-not-empty (λ a. tellerWithdrawal a (pos 10)) (λ l r z. means teller-withdraw-says w) (record-of (pos 0)) (record-of (pos 2)) refl refl refl
 
 -- ---- the sheet: the paper's text and no text at all, in any list that has room
 module _ (w : World) (κs : Lfts 2) (f : List ℕ → List ℕ → ℕ × List ℕ)

@@ -13,7 +13,7 @@ use Rattle.ledger.proofs.LedgerContracts.{deposit-says, withdraw-says, guarante
 use Rattle.closing.proofs.CloseContract.{closes, close-says}
 use Rattle.shares.proofs.LossContract.{losses, share-loss-says}
 use Rattle.day.proofs.SheetContract.{sheets, sheet-says}
-use Rattle.teller.proofs.TellerContracts.{windowDeposits, windowWithdrawals, deposit-permits, withdraw-permits}
+use Rattle.teller.proofs.TellerContracts.{windowDeposits, windowWithdrawals, teller-deposit-says, teller-withdraw-says}
 
 -- ---- the lemma: two results that an equation permits coincide, part by part
 
@@ -79,7 +79,7 @@ by-two : {T : Ended} {c : Contract T} {X : Type 0} {left : (κs : Lives T) → A
 by-two says w κs a r r′ z z′ p q = let h = means says w p in let i = means says w q in (one _ (h .0) (i .0), one _ (h .1) (i .1))
 
 pub teller-deposit : Coincide windowDeposits windowDeposits (λ _ z. now (z .0))
-teller-deposit = by-two deposit-permits
+teller-deposit = by-two teller-deposit-says
 
 pub teller-withdraw : Coincide windowWithdrawals windowWithdrawals (λ _ z. now (z .0))
-teller-withdraw = by-two withdraw-permits
+teller-withdraw = by-two teller-withdraw-says
