@@ -3,7 +3,7 @@
 use mathlib.Core.Path.{_≡_, refl, sym, ap, _∙_}
 use mathlib.Core.List.{List, [], _∷_}
 use mathlib.Core.Bool.{Bool, true, false, cond}
-use Prim.Native.Nat.{ℕ}
+use Prim.Native.Nat.{ℕ, _≤_}
 use native.Mathlib.Omega.{arith}
 use lib.Dec.{eqb}
 use lib.IntN.{ℤ}
@@ -12,26 +12,20 @@ use Rattle.rules.specs.AccountCalls.{deposited, withdrawn, guaranteed}
 use Rattle.rules.specs.AccountCallsLaws.{deposited-keeps, deposited-changes, withdrawn-keeps, withdrawn-changes, guaranteed-keeps, guaranteed-changes}
 use Rattle.rules.specs.declared.Account.{Account}
 use Rattle.rules.specs.declared.Taken.{Taken}
-use Rattle.places.specs.Place.{Put, _≔_, cash, guarantee, cap}
+use Rattle.places.specs.Place.{Put, acct, _≔_}
 use Rattle.places.specs.PlaceLaws.{Each}
 use Rattle.acts.specs.Requests.{whenTaken, depositAct, withdrawAct, guaranteeAct, questionAct}
 use Rattle.acts.specs.OneAccount.{OwnPuts, InOrder, Proper}
 
--- ---- puts of cash, guarantee and cap are an account's own
+-- ---- puts of the words 1 to 3 of an account, cash, guarantee and cap, are its own
 
 own-none : (a : ℕ) → Each (OwnPuts a) []
 own-none a = tt
 
-own-cash : (a : ℕ) (v : ℤ) (us : List Put) → Each (OwnPuts a) us → Each (OwnPuts a) ((cash a ≔ v) ∷ us)
-own-cash a v us h = ((refl, omega arith, omega arith), h)
+own-word : (a i : ℕ) (v : ℤ) (us : List Put) → 1 ≤ i → i ≤ 3 → Each (OwnPuts a) us → Each (OwnPuts a) ((acct a i ≔ v) ∷ us)
+own-word a i v us l u h = ((refl, l, u), h)
 
-own-guarantee : (a : ℕ) (v : ℤ) (us : List Put) → Each (OwnPuts a) us → Each (OwnPuts a) ((guarantee a ≔ v) ∷ us)
-own-guarantee a v us h = ((refl, omega arith, omega arith), h)
-
-own-cap : (a : ℕ) (v : ℤ) (us : List Put) → Each (OwnPuts a) us → Each (OwnPuts a) ((cap a ≔ v) ∷ us)
-own-cap a v us h = ((refl, omega arith, omega arith), h)
-
-ruleset owns = (own-none, own-cash, own-guarantee, own-cap)
+ruleset owns = (own-none, own-word, arith)
 
 -- ---- what a call on the record puts: its list, or nothing
 

@@ -1,12 +1,36 @@
--- What is kept of an amount and a sum so that amount × weight / sum takes one division for each weight. Words for private contracts: no reader of the
--- shares needs them.
-use mathlib.Core.Path.{_≡_, sym, ap}
+-- What is kept of an amount and a sum so that amount × weight / sum takes one division for each weight. Words for contracts inside this crate: no
+-- reader of the shares needs them.
+use mathlib.Core.Path.{_≡_, refl, sym, ap}
+use mathlib.Core.Bool.{Bool, true, false, cond, _&&_}
 use Prim.Native.Nat.{ℕ, _+_, _*_, _/_, _%_, _^_, _≤_, _<_}
 use native.Mathlib.Nat.{div-add-mod', mod-lt, mul-le-mul, le-of-mul-le-mul-right}
 use native.Mathlib.Omega.{arith}
 use lib.Arith.{digits-div, digits-mod}
+use lib.Dec.{leb}
+use borrow.Author.Tests.{leb-true}
+use Rattle.whole.specs.Signs.{false-true}
+use Rattle.portions.specs.declared.divide.Ready.{Ready}
 
 -- 2^15 and 2^30 times the amount, divided by the sum
+abbrev pub divided : ℕ → ℕ → Ready
+divided amount sum =
+    record {
+      narrow = true;
+      quotient15 = amount * 2 ^ 15 / sum;
+      remainder15 = amount * 2 ^ 15 % sum;
+      quotient30 = amount * 2 ^ 30 / sum;
+      remainder30 = amount * 2 ^ 30 % sum;
+    }
+
+-- nothing divided: four zeros
+abbrev pub undivided : Ready
+undivided = record { narrow = false; quotient15 = 0; remainder15 = 0; quotient30 = 0; remainder30 = 0 }
+
+-- the ratio is narrow where the amount is at most the sum and the sum at most 2^46; where it is not, nothing is divided
+unfoldable pub ratioOf : ℕ → ℕ → Ready
+ratioOf amount sum = cond (leb amount sum && leb sum (2 ^ 46)) (divided amount sum) undivided
+
+-- what the four numbers of a narrow ratio are good for
 pub record Ratio (amount sum q15 r15 q30 r30 : ℕ) : Type 0 where
   pub part : amount ≤ sum
   pub narrow : sum ≤ 2 ^ 46
@@ -16,6 +40,30 @@ pub record Ratio (amount sum q15 r15 q30 r30 : ℕ) : Type 0 where
   pub twice-less : r30 < sum
 
 -- ---- laws
+
+divided-ratio : (amount sum : ℕ) → amount ≤ sum → sum ≤ 2 ^ 46 → 0 < sum
+    → Ratio amount sum (amount * 2 ^ 15 / sum) (amount * 2 ^ 15 % sum) (amount * 2 ^ 30 / sum) (amount * 2 ^ 30 % sum)
+divided-ratio amount sum part narrow some =
+    record {
+      part = part;
+      narrow = narrow;
+      once = div-add-mod' (amount * 2 ^ 15) sum;
+      once-less = mod-lt (amount * 2 ^ 15) some;
+      twice = div-add-mod' (amount * 2 ^ 30) sum;
+      twice-less = mod-lt (amount * 2 ^ 30) some;
+    }
+
+-- a narrow one has a `Ratio`
+pub ratio-narrow : (amount sum : ℕ) → 0 < sum
+    → let r = ratioOf amount sum in r .narrow ≡ true → Ratio amount sum (r .quotient15) (r .remainder15) (r .quotient30) (r .remainder30)
+unfolding ratioOf
+ratio-narrow amount sum some = go (leb amount sum) (leb sum (2 ^ 46)) refl refl
+  where
+    go : (s t : Bool) → leb amount sum ≡ s → leb sum (2 ^ 46) ≡ t
+        → let r = cond (s && t) (divided amount sum) undivided in r .narrow ≡ true → Ratio amount sum (r .quotient15) (r .remainder15) (r .quotient30) (r .remainder30)
+    go true true p q e = divided-ratio amount sum (leb-true amount sum p) (leb-true sum (2 ^ 46) q) some
+    go true false p q e = absurd (false-true e)
+    go false t p q e = absurd (false-true e)
 
 module _ {amount sum q15 r15 q30 r30 : ℕ} (r : Ratio amount sum q15 r15 q30 r30) where
   pub once-most : q15 ≤ 2 ^ 15

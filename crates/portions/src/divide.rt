@@ -1,8 +1,7 @@
 // amount × weight / sum, exact though the product passes 64 bits, where no type is that wide.
 ghost use mathlib.Core.Path.{_≡_};
-ghost use mathlib.Core.Bool.{true};
 ghost use Prim.Native.Nat.{_*_, _/_, _%_, _^_, _+_, _≤_, _<_};
-ghost use Rattle.portions.specs.Ratio.{Ratio};
+ghost use Rattle.portions.specs.Ratio as R;
 
 pub struct Quot {
     pub quotient: u64,
@@ -54,7 +53,7 @@ pub struct Ready {
 // The two divisions.
 fn divided(amount: u64, sum: u64) -> Ready
     requires { ⌜ amount ≤ sum ⌝ ∗ ⌜ 0 < sum ⌝ ∗ ⌜ sum ≤ 2 ^ 46 ⌝ }
-    ensures { λ r. ⌜ Ratio amount sum (r .quotient15) (r .remainder15) (r .quotient30) (r .remainder30) ⌝ }
+    ensures { λ r. ⌜ r ≡ R.divided amount sum ⌝ }
 {
     let first = amount * 32768;
     let quotient15 = first / sum;
@@ -69,10 +68,10 @@ fn divided(amount: u64, sum: u64) -> Ready
     }
 }
 
-// The ratio is narrow where the amount is at most the sum and the sum at most 2^46: every layer of document 01 is.
+// The ratio is narrow where the amount is at most the sum and the sum at most 2^46: every layer of document 01 is. Where it is not, nothing is divided.
 pub fn ratio_of(amount: u64, sum: u64) -> Ready
     requires { ⌜ 0 < sum ⌝ }
-    ensures { λ r. ⌜ (r .narrow ≡ true → Ratio amount sum (r .quotient15) (r .remainder15) (r .quotient30) (r .remainder30)) ⌝ }
+    ensures { λ r. ⌜ r ≡ R.ratioOf amount sum ⌝ }
 {
     if amount <= sum && sum <= 0x4000_0000_0000 {
         return divided(amount, sum);
@@ -89,7 +88,7 @@ pub fn ratio_of(amount: u64, sum: u64) -> Ready
 // With a narrow ratio a weight takes one division: its three digits of 15 bits (the highest may have 16) take so many times the quotients and remainders
 // made ready, and what the remainders come to is below 2^63.
 fn part_narrow(ready: Ready, amount: u64, weight: u64, sum: u64) -> Quot
-    requires { ⌜ Ratio amount sum (ready .quotient15) (ready .remainder15) (ready .quotient30) (ready .remainder30) ⌝ ∗ ⌜ weight ≤ sum ⌝ }
+    requires { ⌜ R.Ratio amount sum (ready .quotient15) (ready .remainder15) (ready .quotient30) (ready .remainder30) ⌝ ∗ ⌜ weight ≤ sum ⌝ }
     ensures { λ r. ⌜ (r .quotient ≡ amount * weight / sum) × (r .remainder ≡ amount * weight % sum) ⌝ }
 {
     let upper = weight / 32768;
@@ -105,7 +104,7 @@ fn part_narrow(ready: Ready, amount: u64, weight: u64, sum: u64) -> Quot
 
 // amount × weight / sum and its remainder.
 pub fn part_of(ready: Ready, amount: u64, weight: u64, sum: u64) -> Quot
-    requires { ⌜ (ready .narrow ≡ true → Ratio amount sum (ready .quotient15) (ready .remainder15) (ready .quotient30) (ready .remainder30)) ⌝ }
+    requires { ⌜ ready ≡ R.ratioOf amount sum ⌝ }
     requires { ⌜ amount ≤ 2 ^ 57 ⌝ ∗ ⌜ weight ≤ sum ⌝ ∗ ⌜ 0 < sum ⌝ ∗ ⌜ sum ≤ 2 ^ 57 ⌝ }
     ensures { λ r. ⌜ (r .quotient ≡ amount * weight / sum) × (r .remainder ≡ amount * weight % sum) ⌝ }
 {

@@ -24,6 +24,7 @@ abbrev pub windowDeposits : Contract deposit.ended
 windowDeposits = record { clauses = λ _. deposit.clauses }
 
 pub teller-deposit-says : Says windowDeposits (λ _ a r z. WindowSays tellerDeposit (now (a .0)) (a .1 .0) r (now (z .0)))
+unfolding tellerDeposit
 teller-deposit-says = record { its-clauses = λ _. refl; one-proof = λ _ a r z. says-prop tellerDeposit (now (a .0)) (a .1 .0) r (now (z .0)) }
 
 abbrev pub windowWithdrawals : Contract withdraw.ended

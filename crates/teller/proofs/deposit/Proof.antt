@@ -13,7 +13,7 @@ use Rattle.teller.proofs.deposit.Statement as stated
 use Rattle.teller.proofs.deposit.Code as code
 
 pub deposit-spec : {M : Type 1} → stated.statement M
-unfolding code.routine
+unfolding code.routine tellerDeposit
 deposit-spec 𝓤 H 𝓜 𝓖 𝓡 =
     window-law tellerDeposit key.name callee.name code.env callee.routine refl 𝓤 H 𝓜 𝓖 𝓡
     (code.unfolded 𝓤 H 𝓜 𝓡) (callee-theorem.met 𝓤 H 𝓜 𝓖 𝓡)
