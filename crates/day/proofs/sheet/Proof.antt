@@ -1,4 +1,5 @@
 -- `sheet` meets its contract: the two tests decide which answer it is; the sheet at the start of a list with room is the list with its first bytes replaced.
+use native.Mathlib.Omega.{arith}
 use Rattle.lines.specs.Print.{badLine}
 use Rattle.dayfile.specs.Day.{bodiesOf}
 use Rattle.dayfile.specs.Table.{contentsOf}
@@ -10,7 +11,7 @@ use Rattle.day.proofs.sheet.Statement.{statement}
 use Rattle.day.proofs.sheet.Tie as tie
 
 returns : tie.Need-returns
-returns c = let a = c .before .before .before .args in answer-none (sheetOf theLedger (a .text .now)) (a .out .now) (c .if1 .taken)
+returns c = let a = c .before .before .before .args in answer-none (sheetOf theLedger (a .text .now)) (a .out .now) (omega (arith, c .if1 .taken))
 
 put-bad-requires : tie.Need-put-bad-requires
 put-bad-requires c κs = search needs
