@@ -1,7 +1,7 @@
 //! Links the archive of the proved program, where one is named.
 //!
 //! `HEIDBUMMEN_LIB=/path/to/libinterface.a cargo build --release` turns on the
-//! `window` cfg and hands the archive to the linker. Without the variable the
+//! `interface` cfg and hands the archive to the linker. Without the variable the
 //! package builds all the same, and `compare` and `bench` say that there is
 //! nothing to compare with.
 
@@ -10,7 +10,7 @@ use std::path::Path;
 fn main() {
     println!("cargo:rerun-if-changed=build.rs");
     println!("cargo:rerun-if-env-changed=HEIDBUMMEN_LIB");
-    println!("cargo:rustc-check-cfg=cfg(window)");
+    println!("cargo:rustc-check-cfg=cfg(interface)");
     let Ok(path) = std::env::var("HEIDBUMMEN_LIB") else {
         return;
     };
@@ -21,7 +21,7 @@ fn main() {
         .canonicalize()
         .unwrap_or_else(|why| panic!("HEIDBUMMEN_LIB names {path}: {why}"));
     println!("cargo:rerun-if-changed={}", archive.display());
-    println!("cargo:rustc-cfg=window");
+    println!("cargo:rustc-cfg=interface");
     // After the package's own objects, so that their undefined names find it.
     println!("cargo:rustc-link-arg={}", archive.display());
     // An archive of a program without the standard library brings a panic

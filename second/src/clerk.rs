@@ -86,8 +86,8 @@ pub fn other(with_self: bool) -> Option<&'static dyn Clerk> {
     if with_self {
         return Some(&Plain);
     }
-    #[cfg(window)]
+    #[cfg(interface)]
     return Some(&crate::interface::Interface);
-    #[cfg(not(window))]
+    #[cfg(not(interface))]
     None
 }

@@ -21,7 +21,7 @@ pub mod run;
 pub mod share;
 pub mod sheet;
 pub mod teller;
-#[cfg(window)]
+#[cfg(interface)]
 pub mod interface;
 
 pub use calls::{deposit, guarantee, question, trade, withdraw};

@@ -10,16 +10,16 @@ use Rattle.whole.specs.Counting.{figureAt}
 use Rattle.dayfile.specs.CallLines.{Call, begin, step, trade, close, none, column}
 
 -- a trade and a close by their figures
-abbrev pub tradeOf : List ℤ → Call
-tradeOf v = trade (figureAt v 0) (figureAt v 1) (figureAt v 2) (figureAt v 3) (figureAt v 4)
+abbrev pub tradeBy : List ℤ → Call
+tradeBy v = trade (figureAt v 0) (figureAt v 1) (figureAt v 2) (figureAt v 3) (figureAt v 4)
 
-abbrev pub closeOf : (p : ℕ) → List ℤ → Call
-closeOf p v = close (column 0 p v) (column 1 p v) (column 2 p v) (column 3 p v)
+abbrev pub closeBy : (p : ℕ) → List ℤ → Call
+closeBy p v = close (column 0 p v) (column 1 p v) (column 2 p v) (column 3 p v)
 
 -- the call of a letter other than `D`, `W` and `G`
 unfoldable pub callOnAll : (p letter : ℕ) → List ℤ → Call
 callOnAll p letter v =
     cond (eqb letter (code "B")) begin
     (cond (eqb letter (code "S")) step
-    (cond (eqb letter (code "T")) (tradeOf v)
-    (cond (eqb letter (code "C")) (closeOf p v) none)))
+    (cond (eqb letter (code "T")) (tradeBy v)
+    (cond (eqb letter (code "C")) (closeBy p v) none)))

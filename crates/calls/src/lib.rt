@@ -8,7 +8,7 @@ ghost use mathlib.Core.Path.{_≡_};
 ghost use Rattle.places.specs.ByAccount.{byAccount};
 ghost use Rattle.soundness.specs.SoundLaws.{Ledger};
 ghost use Rattle.dayfile.specs.CallLines.{callOf};
-ghost use Rattle.calls.specs.InsideCalls.{tradeOf, closeOf, callOnAll};
+ghost use Rattle.calls.specs.InsideCalls.{tradeBy, closeBy, callOnAll};
 ghost use Rattle.calls.specs.Ledger.{theLedger};
 
 pub fn is_sound(words: &[i64]) -> bool
@@ -63,7 +63,7 @@ fn act_on_all(words: &mut [i64], s: Shape, letter: u8, figures: &[i64]) -> Reply
 // 01: `T buyer seller product lots price`.
 fn trade(words: &mut [i64], s: Shape, figures: &[i64]) -> Reply
     requires { ⌜ Ledger byAccount s (now words) ⌝ }
-    ensures { λ r. ⌜ (r, now (words .exit)) ≡ theLedger .perform (tradeOf (now (figures .entry))) (now (words .entry)) ⌝ }
+    ensures { λ r. ⌜ (r, now (words .exit)) ≡ theLedger .perform (tradeBy (now (figures .entry))) (now (words .entry)) ⌝ }
 {
     let buyer = dayfile::figure_at(figures, 0);
     let seller = dayfile::figure_at(figures, 1);
@@ -76,7 +76,7 @@ fn trade(words: &mut [i64], s: Shape, figures: &[i64]) -> Reply
 // A close takes its four lists from the columns of the figures.
 fn close(words: &mut [i64], s: Shape, figures: &[i64]) -> Reply
     requires { ⌜ Ledger byAccount s (now words) ⌝ }
-    ensures { λ r. ⌜ (r, now (words .exit)) ≡ theLedger .perform (closeOf (s .p) (now (figures .entry))) (now (words .entry)) ⌝ }
+    ensures { λ r. ⌜ (r, now (words .exit)) ≡ theLedger .perform (closeBy (s .p) (now (figures .entry))) (now (words .entry)) ⌝ }
 {
     let p = s.p;
     let mut prices = [0i64; MOST_PRODUCTS];

@@ -43,7 +43,7 @@ fn reply_agrees(line: &[u8], at: usize, kind: u8, given: &[i64; 8], words: &mut 
 fn question_agrees(line: &[u8], at: usize, account: i64, words: &[i64]) -> bool {
     let r = ledger::question(words, account);
     let mut wanted = [0i64; 5];
-    let end = lines::fields(line, at, 5, &mut wanted, 0);
+    let end = lines::figures_into(line, at, 5, &mut wanted, 0);
     if end != line.len() {
         return false;
     }

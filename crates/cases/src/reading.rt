@@ -58,7 +58,7 @@ pub fn is(x: i64, n: u64) -> bool {
 // Whether a line ends with number, figure and checksum, as they came out.
 pub fn ends(line: &[u8], from: usize, number: u64, figure: i64, sum: u64) -> bool {
     let mut wanted = [0i64; 3];
-    let end = lines::fields(line, from, 3, &mut wanted, 0);
+    let end = lines::figures_into(line, from, 3, &mut wanted, 0);
     if end != line.len() {
         return false;
     }

@@ -9,7 +9,7 @@ ghost use Rattle.whole.specs.Counting.{all, least};
 ghost use Rattle.places.specs.Place.{get, puts, each, dues, phase};
 ghost use Rattle.places.specs.PlaceLaws.{Sized};
 ghost use Rattle.places.specs.ByAccount.{byAccount};
-ghost use Rattle.places.specs.Act.{finish};
+ghost use Rattle.places.specs.Act.{mostAccounts, finish};
 ghost use Rattle.soundness.specs.Perform.{perform};
 ghost use Rattle.soundness.specs.SoundLaws.{Ledger};
 ghost use Rattle.daily.specs.DailyFigures.{overGross, figureOk};
@@ -168,7 +168,7 @@ fn close_words(
 
 fn phase_is(words: &[i64], s: Shape, f: usize) -> bool
     requires { ⌜ Sized s (now words) ⌝ }
-    requires { ⌜ f ≤ 65 ⌝ }
+    requires { ⌜ f ≤ mostAccounts + 1 ⌝ }
     ensures { λ r. ⌜ r ≡ is f (get byAccount s (now (words .entry)) phase) ⌝ }
 {
     let k = f as i64;
@@ -225,7 +225,7 @@ pub fn close_in(
     if !phase_is(words, s, n + 1) {
         return soundness::refused(7);
     }
-    if !daily::figures_ok(words, s, prices, rates8, rates104, lags) {
+    if !daily::lists_ok(words, s, prices, rates8, rates104, lags) {
         return soundness::refused(8);
     }
     close_all(words, s, prices, rates8, rates104, lags)

@@ -37,7 +37,7 @@ pub fn lengths_ok(p: usize, prices: &[i64], rates8: &[i64], rates104: &[i64], la
     lags.len() == p
 }
 
-fn word_between(list: &[i64], j: usize, lo: i64, hi: i64) -> bool
+fn figure_between(list: &[i64], j: usize, lo: i64, hi: i64) -> bool
     requires { ⌜ j < length (now list) ⌝ }
     ensures { λ r. ⌜ r ≡ between lo hi (figureAt (now (list .entry)) j) ⌝ }
 {
@@ -68,19 +68,19 @@ fn figure_ok(
     requires { ⌜ j < s .p ⌝ }
     ensures { λ r. ⌜ r ≡ F.figureOk (now (prices .entry)) (now (rates8 .entry)) (now (rates104 .entry)) (now (lags .entry)) (get byAccount s (now (words .entry))) j ⌝ }
 {
-    if !word_between(prices, j, 1, highest_price(words, s, j)) {
+    if !figure_between(prices, j, 1, highest_price(words, s, j)) {
         return false;
     }
-    if !word_between(rates8, j, 1, rules::sizes::MOST_RATE) {
+    if !figure_between(rates8, j, 1, rules::sizes::MOST_RATE) {
         return false;
     }
-    if !word_between(rates104, j, 1, rules::sizes::MOST_RATE) {
+    if !figure_between(rates104, j, 1, rules::sizes::MOST_RATE) {
         return false;
     }
-    word_between(lags, j, 0, LAST_LAG)
+    figure_between(lags, j, 0, LAST_LAG)
 }
 
-pub fn figures_ok(
+pub fn lists_ok(
     words: &[i64],
     s: Shape,
     prices: &[i64],

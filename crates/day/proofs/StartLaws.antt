@@ -17,14 +17,14 @@ use Rattle.dayfile.proofs.HeadLaws.{Head}
 use Rattle.calls.specs.Ledger.{theLedger}
 
 -- a count up to its most is what it states
-count-is : (b k : ℕ) → k ≤ b → statedCount b (pos k) ≡ k
-count-is b zero h = refl
-count-is b (suc k) h = rw (is-in 1 b (suc k) (omega arith) h) refl
+stated-is : (b k : ℕ) → k ≤ b → statedCount b (pos k) ≡ k
+stated-is b zero h = refl
+stated-is b (suc k) h = rw (is-in 1 b (suc k) (omega arith) h) refl
 
 pub opened : (s : Shape) (W : List ℤ) → Head s W → s .n ≤ mostAccounts → s .p ≤ mostProducts → theLedger .sound W ≡ true → Ledger byAccount s W
 unfolding theLedger
 opened s W d few few′ e =
-    let n-is = ap (statedCount mostAccounts) (head-word byAccount s W 0 ∙ d .accounts-are) ∙ count-is mostAccounts (s .n) few in
-    let p-is = ap (statedCount mostProducts) (head-word byAccount s W 1 ∙ d .products-are) ∙ count-is mostProducts (s .p) few′ in
+    let n-is = ap (statedCount mostAccounts) (head-word byAccount s W 0 ∙ d .accounts-are) ∙ stated-is mostAccounts (s .n) few in
+    let p-is = ap (statedCount mostProducts) (head-word byAccount s W 1 ∙ d .products-are) ∙ stated-is mostProducts (s .p) few′ in
     let shape-is : shapeOf W ≡ s = λ i. record { n = n-is i; p = p-is i } in
     ledger-at placesOk byAccount W s e (sym shape-is)

@@ -123,8 +123,8 @@ module _ (ψ : Asks) (φ : Fills) (callee : Name) where
   stayed = (stay-none (λ κs. view (of-text κs)) yes, (gave-slice (1 ∷ []) tt (plain (λ _. i64)), (stay-none (λ _. usize) yes, tt)))
 
   -- the contract that the proof cites
-  abbrev pub Place : {M : Type 1} (𝓤 : URA M) (H : Heap 𝓤) (A : Atoms 𝓤) → Contract 𝓤
-  Place 𝓤 H A = Of 𝓤 H A place-ended (place-clauses ψ φ 𝓤)
+  abbrev pub AtPlace : {M : Type 1} (𝓤 : URA M) (H : Heap 𝓤) (A : Atoms 𝓤) → Contract 𝓤
+  AtPlace 𝓤 H A = Of 𝓤 H A place-ended (place-clauses ψ φ 𝓤)
 
   module _ {M : Type 1} (𝓤 : URA M) (H : Heap 𝓤) (A : Atoms 𝓤) (W : Given 𝓤 H A) (κs : Lfts 2) (qs : Shares 2) (d : Reader) (x : RefT (List ℤ)) (n : ℕ)
       (at-fits : d .at < 2 ^ 64) (n-fits : n < 2 ^ 64) where
@@ -151,14 +151,14 @@ module _ (ψ : Asks) (φ : Fills) (callee : Name) where
     abbrev passed-on : Vals (place-ended .signature) κs
     passed-on = (low (d .text) ∷ [], (vint w64 (d .at) ∷ [], (v ∷ [], (vint w64 n ∷ [], tt))))
 
-    abbrev to : Place 𝓤 H A .Ghost
+    abbrev to : AtPlace 𝓤 H A .Ghost
     to = ((κs, qs, tt, (d .text, (d .at, (x, (n, tt)))), passed-on), tt)
 
     abbrev Owns : Fml
     Owns = owns (text (of-text κs) ∷ usize ∷ lent κs ∷ usize ∷ []) (d .text, (d .at, (x, (n, tt)))) passed-on
 
     -- what the view and the list own gives what the callee asks, and the view is kept
-    apart : ψ (x .now) n → ent 𝓤 entry (sep 𝓤 (Place 𝓤 H A .pre to) (sem 𝓤 H A Own))
+    apart : ψ (x .now) n → ent 𝓤 entry (sep 𝓤 (AtPlace 𝓤 H A .pre to) (sem 𝓤 H A Own))
     apart asked =
         qed W (token ∷ ‵ (owns (view (of-text κs) ∷ lent κs ∷ usize ∷ []) (d, (x, (n, tt))) passed) ∷ []) ∵
         move ! (1 ∷ []) $ fsplit ! $ move ! (1 ∷ []) $ fsplit ! $ move ! (1 ∷ []) $ drop ! $ move ! (1 ∷ []) $
@@ -167,7 +167,7 @@ module _ (ψ : Asks) (φ : Fills) (callee : Name) where
         -- [what the text owns; what the view owns; what the list owns; the token]
         nothing ! $ owned ! usize (Is usize) (uint-makes 𝓤 H A W w64) n _ (refl, n-fits) $ fjoin ! $ move ! (3 ∷ 0 ∷ []) $ fjoin ! $
         owned ! usize (Is usize) (uint-makes 𝓤 H A W w64) (d .at) _ (refl, at-fits) $ fjoin ! $ move ! (1 ∷ 0 ∷ []) $ fjoin ! $
-        move ! (2 ∷ 0 ∷ []) $ use2 W (raw (Place 𝓤 H A .pre to)) (qed W (token ∷ ‵ Owns ∷ []) ∵ says ! asked $ frame ! $ done !) $ frame ! $ done !
+        move ! (2 ∷ 0 ∷ []) $ use2 W (raw (AtPlace 𝓤 H A .pre to)) (qed W (token ∷ ‵ Owns ∷ []) ∵ says ! asked $ frame ! $ done !) $ frame ! $ done !
 
     exits : (r : ℕ) (u : Val) (zs : List ℤ) → φ (d .text .now) (d .at) (x .now) n r zs → length zs ≡ length (x .now)
         → ent 𝓤 (⋆ 𝓤 H A (‵ (finally i64 (x .name) zs) ∷ ‵ (usize .own r (u ∷ [])) ∷ token ∷ ‵ Own ∷ [])) (Post u)
@@ -178,7 +178,7 @@ module _ (ψ : Asks) (φ : Fills) (callee : Name) where
         move ! (2 ∷ []) $ frame ! $ nothing ! $ owned ! usize (Is usize) (uint-makes 𝓤 H A W w64) n _ (refl, n-fits) $ fjoin ! $
         move ! (1 ∷ 0 ∷ []) $ fjoin ! $ move ! (2 ∷ 0 ∷ []) $ fjoin ! $ frame ! $ done !
 
-    walk : (C : Calls 𝓤 H) (Λ : Loops 𝓤 H) → FmC 𝓤 H (W .laws) C → Triple 𝓤 (C callee) (Place 𝓤 H A)
+    walk : (C : Calls 𝓤 H) (Λ : Loops 𝓤 H) → FmC 𝓤 H (W .laws) C → Triple 𝓤 (C callee) (AtPlace 𝓤 H A)
         → Holds (hasTy (T′.mir (named 0)) (held d)) × WT (held d) → Room i64 (length (x .now)) → ψ (x .now) n
         → ent 𝓤 entry (WpFn 𝓤 H C Λ (lent-fn callee) (held d ∷ v ∷ vint w64 n ∷ []) Post)
     walk C Λ fm known wt room asked =
@@ -194,7 +194,7 @@ module _ (ψ : Asks) (φ : Fills) (callee : Name) where
         assigns ! (agg ! (and-then ! (load ! (from ! (stop !)) (look ! 2 refl))
         (and-then ! (load ! (from ! (fld ! refl (stop !))) (look-in ! 10 (sub ! 1 refl (whole !)))) (no-more !)))) (from ! (stop !))
         (init ! 0 refl (tt, (tt, (record { fits = room .0 }, tt)))) $
-        move ! (16 ∷ []) $ use1 W (raw (Place 𝓤 H A .pre to) ⊛ ‵ Own) (apart asked) $ split ! $
+        move ! (16 ∷ []) $ use1 W (raw (AtPlace 𝓤 H A .pre to) ⊛ ‵ Own) (apart asked) $ split ! $
         called-last ! fm place-ended (place-clauses ψ φ 𝓤) known to (λ r ws. φ (d .text .now) (d .at) (x .now) n r (ws .1 .1 .0)) (λ r ws. id⊢ 𝓤 _)
         (and-then ! (load ! (from ! (stop !)) (look ! 8 refl))
         (and-then ! (load ! (from ! (stop !)) (look ! 6 refl))
@@ -211,7 +211,7 @@ module _ (ψ : Asks) (φ : Fills) (callee : Name) where
         by ! (exits r u (ws .1 .1 .0) e l)))))))))))
 
   module _ {M : Type 1} (𝓤 : URA M) (H : Heap 𝓤) (A : Atoms 𝓤) (W : Given 𝓤 H A) where
-    lent-walks : (C : Calls 𝓤 H) (Λ : Loops 𝓤 H) → FmC 𝓤 H (W .laws) C → Triple 𝓤 (C callee) (Place 𝓤 H A)
+    lent-walks : (C : Calls 𝓤 H) (Λ : Loops 𝓤 H) → FmC 𝓤 H (W .laws) C → Triple 𝓤 (C callee) (AtPlace 𝓤 H A)
         → Walks 𝓤 H A view-ended stayed (WpFn 𝓤 H C Λ (lent-fn callee)) (view-clauses ψ φ 𝓤)
     lent-walks C Λ fm known = walked 𝓤 H A view-ended stayed (view-clauses ψ φ 𝓤) (WpFn 𝓤 H C Λ (lent-fn callee))
         (λ κs. (LL.vals (decl (of-text κs)) (laws (of-text κs)), (slice-vals, (uint-vals w64, tt))))
@@ -220,7 +220,7 @@ module _ (ψ : Asks) (φ : Fills) (callee : Name) where
         let wt = LL.lawful (decl (of-text κs)) (laws (of-text κs)) 𝓤 H A W .typed (a .0) _ (are .0) .0 in
         walk 𝓤 H A W κs qs (a .0) (a .1 .0) (a .1 .1 .0) (wt .1 .1 .0 .fits) (are .1 .1 .0 .1) C Λ fm known wt (are .1 .0 .0 .1) asked))
 
-  pub lent-meets : {M : Type 1} (𝓤 : URA M) (H : Heap 𝓤) (A : Atoms 𝓤) (W : Given 𝓤 H A) (𝓣 : Tables 𝓤 H) → Triple 𝓤 (𝓣 .C callee) (Place 𝓤 H A)
+  pub lent-meets : {M : Type 1} (𝓤 : URA M) (H : Heap 𝓤) (A : Atoms 𝓤) (W : Given 𝓤 H A) (𝓣 : Tables 𝓤 H) → Triple 𝓤 (𝓣 .C callee) (AtPlace 𝓤 H A)
       → Meets 𝓤 H A (view-ended .signature) (WpFn 𝓤 H (𝓣 .C) (𝓣 .Λ) (lent-fn callee)) (closing 𝓤 H A view-ended (view-clauses ψ φ 𝓤))
   lent-meets 𝓤 H A W 𝓣 known =
       let view-goes = goes-none 𝓤 H A W 2 (λ κs. view (of-text κs)) yes (λ κs x f. refl) in

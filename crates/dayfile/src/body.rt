@@ -16,7 +16,7 @@ ghost use Rattle.dayfile.specs.CallLines.{mostFigures, callAt};
 ghost use Rattle.dayfile.specs.Sections.{productFigures, accountFigures, holdingAt};
 
 // A product's line: `Y mark price` or `X mark price principal quote`.
-pub fn product_at(text: &[u8], at: usize, words: &mut [i64], base: usize) -> usize
+pub fn product_figures(text: &[u8], at: usize, words: &mut [i64], base: usize) -> usize
     requires { ⌜ base + productFields ≤ length (now words) ⌝ }
     ensures { λ r. ⌜ (r ≡ productFigures (now (text .entry)) at .next) × (now (words .exit) ≡ sets (now (words .entry)) base (productFigures (now (text .entry)) at .values)) ⌝ }
 {
@@ -24,7 +24,7 @@ pub fn product_at(text: &[u8], at: usize, words: &mut [i64], base: usize) -> usi
 }
 
 // An account's line: `F` or `L`, and its seven figures.
-pub fn account_at(text: &[u8], at: usize, words: &mut [i64], base: usize) -> usize
+pub fn account_figures(text: &[u8], at: usize, words: &mut [i64], base: usize) -> usize
     requires { ⌜ base + fields ≤ length (now words) ⌝ }
     ensures { λ r. ⌜ (r ≡ accountFigures (now (text .entry)) at .next) × (now (words .exit) ≡ sets (now (words .entry)) base (accountFigures (now (text .entry)) at .values)) ⌝ }
 {
@@ -41,7 +41,7 @@ pub fn account_at(text: &[u8], at: usize, words: &mut [i64], base: usize) -> usi
 }
 
 // A position's line: account, product, lots, book.
-pub fn position_at(text: &[u8], at: usize) -> Holding
+pub fn holding_at(text: &[u8], at: usize) -> Holding
     ensures { λ r. ⌜ r ≡ holdingAt (now (text .entry)) at ⌝ }
 {
     let a = lines::field_at(text, at, b' ');
@@ -68,5 +68,5 @@ pub fn call_at(text: &[u8], at: usize, figures: &mut [i64], p: usize) -> usize
         return LOST;
     }
     let from = past_gap(text, at + 1, k);
-    lines::fields(text, from, k, figures, 0)
+    lines::figures_into(text, from, k, figures, 0)
 }

@@ -154,7 +154,7 @@ impl<'a> Reader<'a> {
         requires { ⌜ base + productFields ≤ length (now words) ⌝ }
         ensures { λ s. ⌜ (s ≡ productFigures (now (self .entry .text)) (self .entry .at) .next) × (now (words .exit) ≡ sets (now (words .entry)) base (productFigures (now (self .entry .text)) (self .entry .at) .values)) ⌝ }
     {
-        body::product_at(self.text, self.at, words, base)
+        body::product_figures(self.text, self.at, words, base)
     }
 
     // An account's: its first eight words, from a base on.
@@ -162,14 +162,14 @@ impl<'a> Reader<'a> {
         requires { ⌜ base + fields ≤ length (now words) ⌝ }
         ensures { λ s. ⌜ (s ≡ accountFigures (now (self .entry .text)) (self .entry .at) .next) × (now (words .exit) ≡ sets (now (words .entry)) base (accountFigures (now (self .entry .text)) (self .entry .at) .values)) ⌝ }
     {
-        body::account_at(self.text, self.at, words, base)
+        body::account_figures(self.text, self.at, words, base)
     }
 
     // A position's: by value, since its account and product are to be tested before anything is written.
     pub fn position(self) -> Holding
         ensures { λ s. ⌜ s ≡ holdingAt (now (self .entry .text)) (self .entry .at) ⌝ }
     {
-        body::position_at(self.text, self.at)
+        body::holding_at(self.text, self.at)
     }
 
     // A call's letter, which tells how many figures follow; 0 past the end of the text.

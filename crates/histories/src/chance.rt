@@ -25,7 +25,7 @@ fn part(x: u64, range: u64) -> u64
 }
 
 // From low on, below low + range.
-pub fn between(seed: u64, event: u64, turn: u64, low: i64, range: u64) -> i64 {
+pub fn drawn(seed: u64, event: u64, turn: u64, low: i64, range: u64) -> i64 {
     if low < -1000000000000000 {
         return low;
     }

@@ -62,7 +62,7 @@ fn amount(seed: u64, i: u64, turn: u64) -> i64 {
     if c == 3 {
         return -1;
     }
-    chance::between(seed, i, turn % 16 + 1, 1, 700000)
+    chance::drawn(seed, i, turn % 16 + 1, 1, 700000)
 }
 
 fn event_of(seed: u64, i: u64) -> Event {
@@ -75,7 +75,7 @@ fn event_of(seed: u64, i: u64) -> Event {
         };
     }
     let kind = chance::draw(seed, i, 1) % 10;
-    let account = chance::between(seed, i, 2, -1, 6);
+    let account = chance::drawn(seed, i, 2, -1, 6);
     let one = amount(seed, i, 3);
     let two = amount(seed, i, 6);
     Event {

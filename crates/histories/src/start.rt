@@ -23,26 +23,26 @@ fn head(words: &mut [i64], seed: u64) {
     put(words, 0, 4);
     put(words, 1, 3);
     put(words, 2, 1);
-    put(words, 3, chance::between(seed, 0, 0, -1000000, 2000000));
+    put(words, 3, chance::drawn(seed, 0, 0, -1000000, 2000000));
 }
 
 fn dues(words: &mut [i64], seed: u64, at: usize, k: u64) {
     if 64 < at {
         return;
     }
-    put(words, at + 5, chance::between(seed, k, 5, -300000, 600000));
-    put(words, at + 6, chance::between(seed, k, 6, -300000, 600000));
-    put(words, at + 7, chance::between(seed, k, 7, -300000, 600000));
+    put(words, at + 5, chance::drawn(seed, k, 5, -300000, 600000));
+    put(words, at + 6, chance::drawn(seed, k, 6, -300000, 600000));
+    put(words, at + 7, chance::drawn(seed, k, 7, -300000, 600000));
 }
 
 // The cash of an account: close to 10^15 in every eighth history, for one of its accounts.
 fn cash_of(seed: u64, k: u64) -> i64 {
     if seed % 8 == 0 {
         if k == 1 {
-            return chance::between(seed, k, 1, 999999999000000, 100000);
+            return chance::drawn(seed, k, 1, 999999999000000, 100000);
         }
     }
-    chance::between(seed, k, 1, -400000, 2000000)
+    chance::drawn(seed, k, 1, -400000, 2000000)
 }
 
 fn account(words: &mut [i64], seed: u64, at: usize, k: u64, kind: i64) {
@@ -51,7 +51,7 @@ fn account(words: &mut [i64], seed: u64, at: usize, k: u64, kind: i64) {
     }
     put(words, at, kind);
     put(words, at + 1, cash_of(seed, k));
-    put(words, at + 4, chance::between(seed, k, 4, 0, 500000));
+    put(words, at + 4, chance::drawn(seed, k, 4, 0, 500000));
     dues(words, seed, at, k);
 }
 
@@ -60,8 +60,8 @@ fn letter(words: &mut [i64], seed: u64, at: usize, k: u64) {
     if 64 < at {
         return;
     }
-    put(words, at + 2, chance::between(seed, k, 2, 0, 1000000));
-    put(words, at + 3, chance::between(seed, k, 3, 0, 1000000));
+    put(words, at + 2, chance::drawn(seed, k, 2, 0, 1000000));
+    put(words, at + 3, chance::drawn(seed, k, 3, 0, 1000000));
 }
 
 fn products(words: &mut [i64]) {

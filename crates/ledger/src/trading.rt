@@ -150,7 +150,7 @@ fn trade_between(
 }
 
 // Whether both figures name accounts of the ledger.
-fn both_below(buyer: i64, seller: i64, n: usize) -> bool
+fn both_accounts(buyer: i64, seller: i64, n: usize) -> bool
     ensures { λ r. ⌜ r ≡ (isOneOf n buyer && isOneOf n seller) ⌝ }
 {
     if !whole::is_one_of(buyer, n) {
@@ -173,7 +173,7 @@ pub fn trade_in(
 {
     let n = s.n;
     let p = s.p;
-    if !both_below(buyer, seller, n) {
+    if !both_accounts(buyer, seller, n) {
         return soundness::refused(3);
     }
     if !whole::is_one_of(product, p) {

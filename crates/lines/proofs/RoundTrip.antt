@@ -19,19 +19,19 @@ use Rattle.lines.specs.declared.Field.{Field}
 use Rattle.lines.specs.declared.Numeral.the-variants.{Value}
 
 -- ---- digits are read as digits
-run-one : (d : ℕ) (tail : List ℕ) → 48 ≤ d → d ≤ 57 → leadingDigits (d ∷ tail) ≡ d ∷ leadingDigits tail
-run-one d tail l h = rw (le-ltb d 48 l, le-ltb 57 d h)
+leading-one : (d : ℕ) (tail : List ℕ) → 48 ≤ d → d ≤ 57 → leadingDigits (d ∷ tail) ≡ d ∷ leadingDigits tail
+leading-one d tail l h = rw (le-ltb d 48 l, le-ltb 57 d h)
 
-run-step : (k n : ℕ) (t : Bool) (tail : List ℕ) → ltb n 10 ≡ t → ((u : List ℕ) → leadingDigits (digits k (n / 10) ++ u) ≡ digits k (n / 10) ++ leadingDigits u) → leadingDigits (cond t ((48 + n) ∷ []) (digits k (n / 10) ++ ((48 + n % 10) ∷ [])) ++ tail) ≡ cond t ((48 + n) ∷ []) (digits k (n / 10) ++ ((48 + n % 10) ∷ [])) ++ leadingDigits tail
-run-step k n true tail e h = run-one (48 + n) tail (omega arith) (omega (arith, ltb-true n 10 e))
-run-step k n false tail e h =
+leading-step : (k n : ℕ) (t : Bool) (tail : List ℕ) → ltb n 10 ≡ t → ((u : List ℕ) → leadingDigits (digits k (n / 10) ++ u) ≡ digits k (n / 10) ++ leadingDigits u) → leadingDigits (cond t ((48 + n) ∷ []) (digits k (n / 10) ++ ((48 + n % 10) ∷ [])) ++ tail) ≡ cond t ((48 + n) ∷ []) (digits k (n / 10) ++ ((48 + n % 10) ∷ [])) ++ leadingDigits tail
+leading-step k n true tail e h = leading-one (48 + n) tail (omega arith) (omega (arith, ltb-true n 10 e))
+leading-step k n false tail e h =
     ap leadingDigits (append-assoc (digits k (n / 10)) ((48 + n % 10) ∷ []) tail) ∙ h ((48 + n % 10) ∷ tail)
-    ∙ ap (λ (l : List ℕ). digits k (n / 10) ++ l) (run-one (48 + n % 10) tail (omega arith) (omega arith)) ∙ sym (append-assoc (digits k (n / 10)) ((48 + n % 10) ∷ []) (leadingDigits tail))
+    ∙ ap (λ (l : List ℕ). digits k (n / 10) ++ l) (leading-one (48 + n % 10) tail (omega arith) (omega arith)) ∙ sym (append-assoc (digits k (n / 10)) ((48 + n % 10) ∷ []) (leadingDigits tail))
 
-run-digits : (k n : ℕ) (tail : List ℕ) → leadingDigits (digits k n ++ tail) ≡ digits k n ++ leadingDigits tail
+leading-digits : (k n : ℕ) (tail : List ℕ) → leadingDigits (digits k n ++ tail) ≡ digits k n ++ leadingDigits tail
 unfolding digits
-run-digits zero n tail = refl
-run-digits (suc k) n tail = run-step k n (ltb n 10) tail refl (run-digits k (n / 10))
+leading-digits zero n tail = refl
+leading-digits (suc k) n tail = leading-step k n (ltb n 10) tail refl (leading-digits k (n / 10))
 
 -- ---- and stand for the number
 nat-snoc : (v d : ℕ) (l : List ℕ) → natFrom v (l ++ (d ∷ [])) ≡ natFrom v l * 10 + (d - 48)
@@ -74,14 +74,14 @@ zero-digits k = refl
 
 -- ---- a number without its sign, at a place of a text
 module _ (text : List ℕ) (at n close : ℕ) (post : List ℕ) (low : close < 48) (small : n < 10 ^ 20) (there : drop at text ≡ natural n ++ (close ∷ post)) where
-  run-there : leadingDigits (drop at text) ≡ natural n
-  run-there = ap leadingDigits there ∙ run-digits 20 n (close ∷ post) ∙ ap (λ (l : List ℕ). natural n ++ l) none ∙ append-nil (natural n)
+  leading-there : leadingDigits (drop at text) ≡ natural n
+  leading-there = ap leadingDigits there ∙ leading-digits 20 n (close ∷ post) ∙ ap (λ (l : List ℕ). natural n ++ l) none ∙ append-nil (natural n)
     where
       none : leadingDigits (close ∷ post) ≡ []
       none = rw (lt-ltb close 48 low)
 
   value-there : natFrom 0 (leadingDigits (drop at text)) ≡ n
-  value-there = ap (natFrom 0) run-there ∙ nat-digits 20 n small
+  value-there = ap (natFrom 0) leading-there ∙ nat-digits 20 n small
 
   close-there : getD text (at + length (natural n)) 0 ≡ close
   close-there = sym (getD-drop at text (length (natural n)) 0) ∙ ap (λ (l : List ℕ). getD l (length (natural n)) 0) there ∙ getD-append-seam (natural n) close post 0
@@ -102,7 +102,7 @@ module _ (text : List ℕ) (at n close : ℕ) (post : List ℕ) (low : close < 4
   unfolding numberAt
   plain-some h m =
       rw
-      (ne-eqb (getD text at 0) 45 (λ e. apart e), run-there, nat-digits 20 n small, ne-eqb (at + length (natural n)) at (λ e. longer e), ne-eqb (getD text at 0) 48 (λ e. above e), le-ltb 9223372036854775807 n (omega arith))
+      (ne-eqb (getD text at 0) 45 (λ e. apart e), leading-there, nat-digits 20 n small, ne-eqb (at + length (natural n)) at (λ e. longer e), ne-eqb (getD text at 0) 48 (λ e. above e), le-ltb 9223372036854775807 n (omega arith))
     where
       apart : getD text at 0 ≡ 45 → ⊥
       apart e = omega (arith, lead-some h)
@@ -118,7 +118,7 @@ module _ (text : List ℕ) (at n close : ℕ) (post : List ℕ) (low : close < 4
   unfolding numberAt
   minus-some from e s h m =
       rw
-      (eq-eqb (getD text from 0) 45 s, e, run-there, nat-digits 20 n small, ne-eqb (at + length (natural n)) at (λ q. longer q), ne-eqb (getD text at 0) 48 (λ q. above q), le-ltb 9223372036854775808 n (omega arith))
+      (eq-eqb (getD text from 0) 45 s, e, leading-there, nat-digits 20 n small, ne-eqb (at + length (natural n)) at (λ q. longer q), ne-eqb (getD text at 0) 48 (λ q. above q), le-ltb 9223372036854775808 n (omega arith))
     where
       above : getD text at 0 ≡ 48 → ⊥
       above e = omega (arith, lead-some h)
@@ -129,10 +129,10 @@ module _ (text : List ℕ) (at n close : ℕ) (post : List ℕ) (low : close < 4
 plain-zero : (text : List ℕ) (at close : ℕ) (post : List ℕ) → close < 48 → drop at text ≡ 48 ∷ close ∷ post → numberAt text at ≡ Value (pos 0) (at + 1)
 unfolding numberAt
 plain-zero text at close post low there =
-    rw (lead-is, run-is, ne-eqb (at + 1) at (λ e. longer e), eq-eqb (at + 1) (at + 1) refl)
+    rw (lead-is, leading-is, ne-eqb (at + 1) at (λ e. longer e), eq-eqb (at + 1) (at + 1) refl)
   where
-    run-is : leadingDigits (drop at text) ≡ 48 ∷ []
-    run-is = ap leadingDigits there ∙ rw (lt-ltb close 48 low)
+    leading-is : leadingDigits (drop at text) ≡ 48 ∷ []
+    leading-is = ap leadingDigits there ∙ rw (lt-ltb close 48 low)
 
     lead-is : getD text at 0 ≡ 48
     lead-is = ap (λ (k : ℕ). getD text k 0) (sym (add-zero at)) ∙ sym (getD-drop at text 0 0) ∙ ap (λ (l : List ℕ). getD l 0 0) there
@@ -171,9 +171,9 @@ pub data AllFit : List ℤ → Type 0 where
   none : AllFit []
   more : {z : ℤ} {zs : List ℤ} → SFits w64 z → AllFit zs → AllFit (z ∷ zs)
 
-closing-low : (k : ℕ) → closeOf k < 48
-closing-low zero = omega arith
-closing-low (suc k) = omega arith
+close-low : (k : ℕ) → closeOf k < 48
+close-low zero = omega arith
+close-low (suc k) = omega arith
 
 pub line-back : (text : List ℕ) (at : ℕ) (zs : List ℤ) (post : List ℕ) → AllFit zs → drop at text ≡ numbersLine zs ++ post → figuresAt text at (length zs) ≡ record { values = zs; next = at + length (numbersLine zs) }
 unfolding figuresAt numbersLine
@@ -181,7 +181,7 @@ line-back text at [] post fits there = let e : at ≡ at + 0 = omega arith in (�
 line-back text at (z ∷ zs) post (more f fs) there =
     let close = closeOf (length zs) in
     let t = there ∙ append-assoc (field z close) (numbersLine zs) post in
-    let e = field-back text at z close (numbersLine zs ++ post) (closing-low (length zs)) f t in
+    let e = field-back text at z close (numbersLine zs ++ post) (close-low (length zs)) f t in
     let d : drop (at + length (field z close)) text ≡ numbersLine zs ++ post = sym (drop-drop (length (field z close)) at text) ∙ ap (drop (length (field z close))) t ∙ drop-append-seam (field z close) (numbersLine zs ++ post) in
     ap (λ (g : Field). follow (g .value) (figuresAt text (g .next) (length zs))) e ∙ ap (follow z) (line-back text (at + length (field z close)) zs post fs d)
     ∙ (λ i. record { values = z ∷ zs; next = longer i })

@@ -16,7 +16,7 @@ use native.Mathlib.Nat.{add-zero}
 use Rattle.lines.specs.InsideLines.{capped, digitsAt}
 use Rattle.lines.specs.Text.{startsWith, wordAt, leadingDigits, natFrom, minusOf, plainOf, numberAt}
 use Rattle.lines.specs.declared.Numeral.the-variants.{Bad, Value}
-use Rattle.lines.specs.declared.Run.{Run}
+use Rattle.lines.specs.declared.LeadingDigits.{LeadingDigits}
 
 -- ---- words
 pub starts-done : (w s : List ℕ) (i : ℕ) → length w ≤ i → startsWith (drop i w) (drop i s) ≡ true
@@ -56,17 +56,17 @@ pub word-fits : (text : List ℕ) (at : ℕ) (w : List ℕ) → wordAt text at w
 word-fits text at w e = omega (arith, simp (length-take, length-drop) at (ap length (starts-is w (drop at text) e)))
 
 -- ---- runs of digits
-pub run-end : (text : List ℕ) (i : ℕ) → length text ≤ i → leadingDigits (drop i text) ≡ []
-run-end text i h = rw (drop-of-length-le text h)
+pub leading-end : (text : List ℕ) (i : ℕ) → length text ≤ i → leadingDigits (drop i text) ≡ []
+leading-end text i h = rw (drop-of-length-le text h)
 
-pub run-low : (text : List ℕ) (i : ℕ) → i < length text → getD text i 0 < 48 → leadingDigits (drop i text) ≡ []
-run-low text i p h = rw (drop-cons text i 0 p, lt-ltb (getD text i 0) 48 h)
+pub leading-low : (text : List ℕ) (i : ℕ) → i < length text → getD text i 0 < 48 → leadingDigits (drop i text) ≡ []
+leading-low text i p h = rw (drop-cons text i 0 p, lt-ltb (getD text i 0) 48 h)
 
-pub run-high : (text : List ℕ) (i : ℕ) → i < length text → 48 ≤ getD text i 0 → 57 < getD text i 0 → leadingDigits (drop i text) ≡ []
-run-high text i p l h = rw (drop-cons text i 0 p, le-ltb (getD text i 0) 48 l, lt-ltb 57 (getD text i 0) h)
+pub leading-high : (text : List ℕ) (i : ℕ) → i < length text → 48 ≤ getD text i 0 → 57 < getD text i 0 → leadingDigits (drop i text) ≡ []
+leading-high text i p l h = rw (drop-cons text i 0 p, le-ltb (getD text i 0) 48 l, lt-ltb 57 (getD text i 0) h)
 
-pub run-more : (text : List ℕ) (i : ℕ) → i < length text → 48 ≤ getD text i 0 → getD text i 0 ≤ 57 → leadingDigits (drop i text) ≡ getD text i 0 ∷ leadingDigits (drop (i + 1) text)
-run-more text i p l h = rw (add-one i, drop-cons text i 0 p, le-ltb (getD text i 0) 48 l, le-ltb 57 (getD text i 0) h)
+pub leading-more : (text : List ℕ) (i : ℕ) → i < length text → 48 ≤ getD text i 0 → getD text i 0 ≤ 57 → leadingDigits (drop i text) ≡ getD text i 0 ∷ leadingDigits (drop (i + 1) text)
+leading-more text i p l h = rw (add-one i, drop-cons text i 0 p, le-ltb (getD text i 0) 48 l, le-ltb 57 (getD text i 0) h)
 
 pub data Capped (v : ℕ) : Type 0 where
   under : capped v ≡ v → v ≤ 9223372036854775809 → Capped v
@@ -89,7 +89,7 @@ pub record Seen (text : List ℕ) (at i value : ℕ) : Type 0 where
 pub seen-none : (text : List ℕ) (at : ℕ) → Seen text at at 0
 seen-none text at = record { v = 0; ends = refl; reads = refl; caps = refl }
 
-pub seen-done : (text : List ℕ) (at i value : ℕ) → leadingDigits (drop i text) ≡ [] → Seen text at i value → _≡_ {A = Run} (record { end = i; value = value }) (digitsAt text at)
+pub seen-done : (text : List ℕ) (at i value : ℕ) → leadingDigits (drop i text) ≡ [] → Seen text at i value → _≡_ {A = LeadingDigits} (record { end = i; value = value }) (digitsAt text at)
 unfolding digitsAt
 seen-done text at i value e s = λ j. record { end = ends-at j; value = value-is j }
   where
@@ -101,10 +101,10 @@ seen-done text at i value e s = λ j. record { end = ends-at j; value = value-is
 
 module _ (text : List ℕ) (at i value : ℕ) (within : i < length text) (low : 48 ≤ getD text i 0) (high : getD text i 0 ≤ 57) (s : Seen text at i value) where
   ends-on : at + length (leadingDigits (drop at text)) ≡ i + 1 + length (leadingDigits (drop (i + 1) text))
-  ends-on = omega (arith, s .ends, ap length (run-more text i within low high))
+  ends-on = omega (arith, s .ends, ap length (leading-more text i within low high))
 
   reads-on : natFrom 0 (leadingDigits (drop at text)) ≡ natFrom (s .v * 10 + (getD text i 0 - 48)) (leadingDigits (drop (i + 1) text))
-  reads-on = s .reads ∙ ap (natFrom (s .v)) (run-more text i within low high)
+  reads-on = s .reads ∙ ap (natFrom (s .v)) (leading-more text i within low high)
 
   small : value ≤ 922337203685477580 → Capped (s .v) → s .v ≡ value
   small h (under e l) = omega (arith, s .caps, e)
@@ -156,16 +156,16 @@ pub numeral-none : (text : List ℕ) (at : ℕ) → length text ≤ at → Bad �
 unfolding numberAt
 numeral-none text at h = rw (List·getD-eq-default text 0 h, drop-of-length-le text h, add-zero at, eq-eqb at at refl)
 
-pub numeral-minus : (text : List ℕ) (at lead : ℕ) (d : Run) → getD text at 0 ≡ 45 → lead ≡ getD text (at + 1) 0 → d ≡ digitsAt text (at + 1) → minusOf lead (at + 1) (d .end) (d .value) ≡ numberAt text at
+pub numeral-minus : (text : List ℕ) (at lead : ℕ) (d : LeadingDigits) → getD text at 0 ≡ 45 → lead ≡ getD text (at + 1) 0 → d ≡ digitsAt text (at + 1) → minusOf lead (at + 1) (d .end) (d .value) ≡ numberAt text at
 unfolding numberAt digitsAt
 numeral-minus text at lead d first e r =
-    ap (λ (x : Run). minusOf lead (at + 1) (x .end) (x .value)) r ∙ minus-cap lead (at + 1) _ (natFrom 0 (leadingDigits (drop (at + 1) text))) (cap _) ∙
+    ap (λ (x : LeadingDigits). minusOf lead (at + 1) (x .end) (x .value)) r ∙ minus-cap lead (at + 1) _ (natFrom 0 (leadingDigits (drop (at + 1) text))) (cap _) ∙
     rw (eq-eqb (getD text at 0) 45 first) (ap (λ (l : ℕ). minusOf l (at + 1) (at + 1 + length (leadingDigits (drop (at + 1) text))) (natFrom 0 (leadingDigits (drop (at + 1) text)))) e)
 
-pub numeral-plain : (text : List ℕ) (at : ℕ) (d : Run) → (getD text at 0 ≡ 45 → ⊥) → d ≡ digitsAt text at → plainOf (getD text at 0) at (d .end) (d .value) ≡ numberAt text at
+pub numeral-plain : (text : List ℕ) (at : ℕ) (d : LeadingDigits) → (getD text at 0 ≡ 45 → ⊥) → d ≡ digitsAt text at → plainOf (getD text at 0) at (d .end) (d .value) ≡ numberAt text at
 unfolding numberAt digitsAt
 numeral-plain text at d first r =
-    ap (λ (x : Run). plainOf (getD text at 0) at (x .end) (x .value)) r ∙ plain-cap (getD text at 0) at _ (natFrom 0 (leadingDigits (drop at text))) (cap _) ∙
+    ap (λ (x : LeadingDigits). plainOf (getD text at 0) at (x .end) (x .value)) r ∙ plain-cap (getD text at 0) at _ (natFrom 0 (leadingDigits (drop at text))) (cap _) ∙
     rw (ne-eqb (getD text at 0) 45 first)
 
 -- ---- the negative of a number below 2 ^ 63

@@ -35,8 +35,8 @@ pub struct Field {
     pub next: usize,
 }
 
-// Where a run of digits ends, and its value.
-pub struct Run {
+// Where the digits that a place begins with end, and their value.
+pub struct LeadingDigits {
     pub end: usize,
     pub value: u64,
 }
@@ -75,7 +75,7 @@ fn wide(b: u8) -> u64
 }
 
 // The digits from a place: where they end, and their value; 2^63 + 1 for any that is larger, so that it is held by 64 bits.
-fn digits(text: &[u8], at: usize) -> Run
+fn digits(text: &[u8], at: usize) -> LeadingDigits
     ensures { λ r. ⌜ r ≡ digitsAt (now (text .entry)) at ⌝ }
 {
     let mut i = at;
@@ -83,10 +83,10 @@ fn digits(text: &[u8], at: usize) -> Run
     while i < text.len() {
         let b = text[i];
         if b < b'0' {
-            return Run { end: i, value };
+            return LeadingDigits { end: i, value };
         }
         if b > b'9' {
-            return Run { end: i, value };
+            return LeadingDigits { end: i, value };
         }
         if value > 922337203685477580 {
             value = 9223372036854775809;
@@ -95,7 +95,7 @@ fn digits(text: &[u8], at: usize) -> Run
         }
         i += 1;
     }
-    Run { end: i, value }
+    LeadingDigits { end: i, value }
 }
 
 // The byte at a place, and 0 past the end.
@@ -222,7 +222,7 @@ pub fn close_of(left: usize) -> u8
 }
 
 // `count` fields up to the end of a line, written from `base` on.
-pub fn fields(text: &[u8], from: usize, count: usize, out: &mut [i64], base: usize) -> usize
+pub fn figures_into(text: &[u8], from: usize, count: usize, out: &mut [i64], base: usize) -> usize
     requires { ⌜ base + count ≤ length (now out) ⌝ }
     ensures { λ r. ⌜ (r ≡ figuresAt (now (text .entry)) from count .next) × (now (out .exit) ≡ sets (now (out .entry)) base (figuresAt (now (text .entry)) from count .values)) ⌝ }
 {
@@ -253,7 +253,7 @@ fn kind_and_fields(
     ensures { λ r. ⌜ (r ≡ figuresAt (now (text .entry)) at count .next) × (now (words .exit) ≡ sets (now (words .entry)) base (kind ∷ figuresAt (now (text .entry)) at count .values)) ⌝ }
 {
     words[base] = kind;
-    fields(text, at, count, words, base + 1)
+    figures_into(text, at, count, words, base + 1)
 }
 
 // A line of kind 0, which begins with one word, or of kind 1, with another, written from `base` on.

@@ -16,8 +16,8 @@ use Rattle.places.specs.Place.{wordsOf, Layout, Put, get, puts}
 use Rattle.places.specs.PlaceLaws.{Sized}
 use Rattle.places.specs.Act.{statedCount, mostAccounts, mostProducts, shapeOf, shapeOk, Test, soundBy, Act, Rule, finish, performBy}
 
-pub count-le : (b : ℕ) (z : ℤ) → statedCount b z ≤ b
-count-le b z = go (between (pos 1) (pos b) z) refl
+pub stated-count-le : (b : ℕ) (z : ℤ) → statedCount b z ≤ b
+stated-count-le b z = go (between (pos 1) (pos b) z) refl
   where
     go : (t : Bool) → between (pos 1) (pos b) z ≡ t → cond t (natAbs z) 0 ≤ b
     go true e = let h = in-range 1 b z e in omega arith
@@ -90,8 +90,8 @@ module _ (ok : Test) (L : Layout) where
         some = ltb-true 0 (shapeOf W .n) (m .0);
         some′ = ltb-true 0 (shapeOf W .p) (m .1);
         sized = record {
-          few = count-le mostAccounts (getD W 0 (pos 0));
-          few′ = count-le mostProducts (getD W 1 (pos 0));
+          few = stated-count-le mostAccounts (getD W 0 (pos 0));
+          few′ = stated-count-le mostProducts (getD W 1 (pos 0));
           sized = eqb-true (length W) (wordsOf (shapeOf W)) (k .1);
         };
         shaped = refl;

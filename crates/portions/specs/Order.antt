@@ -9,7 +9,7 @@ use native.Mathlib.Omega.{arith}
 use lib.Dec.{ltb, eqb}
 use borrow.Author.Tests.{ltb-true, ltb-false, eqb-true, eqb-false, lt-ltb, le-ltb, eq-eqb}
 use Rattle.whole.specs.Counting.{howMany, one-if}
-use Rattle.whole.specs.CountingLaws.{total-same, total-le, total-add, count-lt, count-none, count-all, count-once}
+use Rattle.whole.specs.CountingLaws.{total-same, total-le, total-add, many-lt, many-none, many-all, many-once}
 use Rattle.whole.specs.Signs.{false-true}
 use Rattle.whole.specs.Tests.{is-false, clash}
 use Rattle.portions.specs.Share.{comes, before, place}
@@ -82,11 +82,11 @@ three-ways i t = go (ltb i t) (ltb t i) refl refl
 module _ (n : ℕ) (r : ℕ → ℕ) where
   pub place-lt : (i j : ℕ) → i < n → before r i j ≡ true → place n r i < place n r j
   unfolding place
-  place-lt i j b e = count-lt n (λ a. before r a i) (λ a. before r a j) i b (not-before-self r i) e (λ a c h. before-trans r a i j h e)
+  place-lt i j b e = many-lt n (λ a. before r a i) (λ a. before r a j) i b (not-before-self r i) e (λ a c h. before-trans r a i j h e)
 
   pub place-most : (i : ℕ) → i < n → place n r i < n
   unfolding place
-  place-most i b = omega (arith, count-all n (λ a. true) (λ a c. refl), count-lt n (λ a. before r a i) (λ a. true) i b (not-before-self r i) refl (λ a c h. refl))
+  place-most i b = omega (arith, many-all n (λ a. true) (λ a c. refl), many-lt n (λ a. before r a i) (λ a. true) i b (not-before-self r i) refl (λ a c h. refl))
 
   apart : (i j : ℕ) → i < j → j < n → place n r i ≡ place n r j → ⊥
   apart i j b c e = ⊎-elim (λ h. omega (arith, place-lt i j (omega arith) h)) (λ h. omega (arith, place-lt j i c h)) (one-first r i j b)
@@ -108,14 +108,14 @@ module _ (n : ℕ) (r : ℕ → ℕ) where
         arith,
         total-le n (λ i. one-if (ltb (place n r i) (suc l))) (λ i. one-if (ltb (place n r i) l) + one-if (eqb (place n r i) l)) (λ i b. next l (place n r i)),
         total-add n (λ i. one-if (ltb (place n r i) l)) (λ i. one-if (eqb (place n r i) l)),
-        count-once n (λ i. eqb (place n r i) l) (λ i j b c e f. apart i j b c (eqb-true (place n r i) l e ∙ sym (eqb-true (place n r j) l f))),
+        many-once n (λ i. eqb (place n r i) l) (λ i j b c e f. apart i j b c (eqb-true (place n r i) l e ∙ sym (eqb-true (place n r j) l f))),
       )
 
   served-none : served 0 ≡ 0
-  served-none = count-none n (λ i. ltb (place n r i) 0) (λ i b. le-ltb (place n r i) 0 zero-le)
+  served-none = many-none n (λ i. ltb (place n r i) 0) (λ i b. le-ltb (place n r i) 0 zero-le)
 
   served-all : served n ≡ n
-  served-all = count-all n (λ i. ltb (place n r i) n) (λ i b. lt-ltb (place n r i) n (place-most i b))
+  served-all = many-all n (λ i. ltb (place n r i) n) (λ i b. lt-ltb (place n r i) n (place-most i b))
 
   served-le : (l : ℕ) → served l ≤ l
   served-le zero = omega (arith, served-none)

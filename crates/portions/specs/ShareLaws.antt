@@ -8,7 +8,7 @@ use native.Mathlib.Omega.{arith}
 use lib.Dec.{ltb}
 use borrow.Author.Tests.{ltb-true, ltb-false, lt-ltb, eq-eqb, ne-eqb}
 use Rattle.whole.specs.Counting.{total, howMany, one-if}
-use Rattle.whole.specs.CountingLaws.{total-same, total-le, total-add, total-times, total-one, count-le, count-all}
+use Rattle.whole.specs.CountingLaws.{total-same, total-le, total-add, total-times, total-one, many-le, many-all}
 use Rattle.whole.specs.Tests.{true-or-false}
 use Rattle.portions.specs.Share.{before, place, floorOf, remainderOf, left, shareOf}
 use Rattle.portions.specs.Order.{is-before, place-lt, place-same, served-is}
@@ -72,7 +72,7 @@ module _ (n : ℕ) (weight : ℕ → ℕ) (amount : ℕ) (some : 0 < total n wei
       some
 
   count-most : (p : ℕ → Bool) → howMany n p ≤ n
-  count-most p = omega (arith, count-all n (λ i. true) (λ i b. refl), count-le n p (λ i. true) (λ i b e. refl))
+  count-most p = omega (arith, many-all n (λ i. true) (λ i b. refl), many-le n p (λ i. true) (λ i b e. refl))
 
   pub left-most : left n weight amount ≤ n
   left-most = omega (arith, left-le, count-most some-left)
@@ -83,7 +83,7 @@ module _ (n : ℕ) (weight : ℕ → ℕ) (amount : ℕ) (some : 0 < total n wei
   extra-some i h = ⊎-elim (λ e. ltb-true 0 (rem i) e) (λ e. absurd (omega (arith, left-le, all-before (ltb-false 0 (rem i) e)))) (true-or-false (some-left i))
     where
       all-before : rem i ≤ 0 → howMany n some-left ≤ howMany n (λ j. before rem j i)
-      all-before z = count-le n some-left (λ j. before rem j i) (λ j b e. is-before rem j i (inl (omega (arith, ltb-true 0 (rem j) e))))
+      all-before z = many-le n some-left (λ j. before rem j i) (λ j b e. is-before rem j i (inl (omega (arith, ltb-true 0 (rem j) e))))
 
   -- THE SHARES ADD EXACTLY TO THE AMOUNT
   pub shares-are-amount : total n (shareOf n weight amount) ≡ amount

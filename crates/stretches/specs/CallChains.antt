@@ -13,8 +13,8 @@ use Rattle.places.specs.Place.{Layout}
 use Rattle.places.specs.Act.{shapeOf, Rule}
 use Rattle.soundness.specs.Sound.{sound}
 use Rattle.soundness.specs.Perform.{replies, perform, ask}
-use Rattle.stretches.specs.Stretch.{Stretch, early, run, late, rank, only}
-use Rattle.stretches.specs.History.{Answer, said, told, Event, begin, happens, hears, phaseOf, stretch, answersTo, wordsAfterAll, eventsOf, heardIn, Until, transfers, transfersIn, ThreeStretches}
+use Rattle.stretches.specs.Stretch.{Stretch, early, run, late, idle, rank, only}
+use Rattle.stretches.specs.History.{Answer, said, told, Event, begin, happens, hears, phaseOf, stretch, answersTo, wordsAfterAll, eventsOf, heardIn, AttemptsRefused, Until, transfers, transfersIn, ThreeStretches}
 use Rattle.stretches.specs.Demand3.{demand-3, demand-3-from-begin}
 
 -- calls one after another, each by its contract: the words before, the events, the answers, the words after
@@ -56,12 +56,14 @@ sifted L c W [] = refl
 sifted L c W (e ∷ es) = ap (only (eqb (rank c) (rank (stretch L W e))) (happens L W e .0)) (sifted L c (happens L W e .1) es)
 
 -- The calls of a mixed history, and the calls of its three stretches one after another: the answers are the same, and so are the
--- words that they leave.
+-- words that they leave; and the attempts of the mixture got the answers that they get, each refused as the demand says.
 pub record Same (L : Layout) (W : List ℤ) (history : List Event) (mixed first runs last : List Answer) (z z′ : List ℤ) : Type 0 where
   pub early-answers : sift L early W history mixed ≡ first
   pub run-answers : sift L run W history mixed ≡ runs
   pub late-answers : sift L late W history mixed ≡ last
   pub words : z ≡ z′
+  pub attempt-answers : sift L idle W history mixed ≡ heardIn L idle W history
+  pub attempts : AttemptsRefused L W history
 
 pub said-of-calls : (L : Layout) (W : List ℤ) (history theRun : List Event) → ThreeStretches L W history theRun
     → {mixed first runs last : List Answer} {z W₁ W₂ z′ : List ℤ}
@@ -79,6 +81,8 @@ said-of-calls L W history theRun t m a b c =
       run-answers = ap (sift L run W history) (answered L m) ∙ sifted L run W history ∙ t .run-answers ∙ sym (answered L b ∙ ap (λ y. answersTo L y theRun) e₁);
       late-answers = ap (sift L late W history) (answered L m) ∙ sifted L late W history ∙ t .late-answers ∙ sym (answered L c ∙ ap (λ y. answersTo L y es) e₂);
       words = left L m ∙ t .words ∙ sym (left L c ∙ ap (λ y. wordsAfterAll L y es) e₂);
+      attempt-answers = ap (sift L idle W history) (answered L m) ∙ sifted L idle W history;
+      attempts = t .attempts;
     }
 
 -- both forms of the demand, of calls

@@ -21,31 +21,31 @@ use Rattle.stretches.specs.CallChains.{Called, none, call, Same, demand-
 module _ (w : World) where
   -- a call of an event's function: the words at its entry, the event, its answer, the words at its exit. Its parameters are those of the source, in their order
   pub data Made : List ℤ → Event → Answer → List ℤ → Type 1 where
-    deposited : (c : CallOf deposits w) → Made (now (c .entry .0)) (asks (c .entry .1 .0) (deposit (c .entry .1 .1 .0))) (said (c .result)) (now (c .exit .0))
-    withdrawn : (c : CallOf withdrawals w) → Made (now (c .entry .0)) (asks (c .entry .1 .0) (withdrawal (c .entry .1 .1 .0))) (said (c .result)) (now (c .exit .0))
-    guaranteed : (c : CallOf guarantees w)
+    by-deposit : (c : CallOf deposits w) → Made (now (c .entry .0)) (asks (c .entry .1 .0) (deposit (c .entry .1 .1 .0))) (said (c .result)) (now (c .exit .0))
+    by-withdraw : (c : CallOf withdrawals w) → Made (now (c .entry .0)) (asks (c .entry .1 .0) (withdrawal (c .entry .1 .1 .0))) (said (c .result)) (now (c .exit .0))
+    by-guarantee : (c : CallOf guarantees w)
         → Made (now (c .entry .0)) (asks (c .entry .1 .0) (guarantee (c .entry .1 .1 .0) (c .entry .1 .1 .1 .0))) (said (c .result)) (now (c .exit .0))
     -- a question only reads: it leaves the words that it was lent
-    questioned : (c : CallOf questions w) → Made (now (c .entry .0)) (asks (c .entry .1 .0) question) (told (c .result)) (now (c .entry .0))
-    traded : (c : CallOf trades w)
+    by-question : (c : CallOf questions w) → Made (now (c .entry .0)) (asks (c .entry .1 .0) question) (told (c .result)) (now (c .entry .0))
+    by-trade : (c : CallOf trades w)
         → Made (now (c .entry .0)) (trade (c .entry .1 .0) (c .entry .1 .1 .0) (c .entry .1 .1 .1 .0) (c .entry .1 .1 .1 .1 .0) (c .entry .1 .1 .1 .1 .1 .0))
         (said (c .result)) (now (c .exit .0))
-    begun : (c : CallOf begins w) → Made (now (c .entry .0)) begin (said (c .result)) (now (c .exit .0))
-    stepped : (c : CallOf steps w) → Made (now (c .entry .0)) transfer (said (c .result)) (now (c .exit .0))
-    closed : (c : CallOf closes w)
+    by-begin : (c : CallOf begins w) → Made (now (c .entry .0)) begin (said (c .result)) (now (c .exit .0))
+    by-step : (c : CallOf steps w) → Made (now (c .entry .0)) transfer (said (c .result)) (now (c .exit .0))
+    by-close : (c : CallOf closes w)
         → Made (now (c .entry .0)) (close (now (c .entry .1 .0)) (now (c .entry .1 .1 .0)) (now (c .entry .1 .1 .1 .0)) (now (c .entry .1 .1 .1 .1 .0)))
         (said (c .result)) (now (c .exit .0))
 
   -- it is what happens
   made-happens : {W z : List ℤ} {e : Event} {a : Answer} → Made W e a z → (a, z) ≡ happens byAccount W e
-  made-happens (deposited c) = ap (hears said) (means deposit-says w (c .permits))
-  made-happens (withdrawn c) = ap (hears said) (means withdraw-says w (c .permits))
-  made-happens (guaranteed c) = ap (hears said) (means guarantee-says w (c .permits))
-  made-happens (questioned c) = ap (hears told) (means question-says w (c .permits))
-  made-happens (traded c) = ap (hears said) (means trade-says w (c .permits))
-  made-happens (begun c) = ap (hears said) (means begin-says w (c .permits))
-  made-happens (stepped c) = ap (hears said) (means step-says w (c .permits))
-  made-happens (closed c) = ap (hears said) (means close-says w (c .permits))
+  made-happens (by-deposit c) = ap (hears said) (means deposit-says w (c .permits))
+  made-happens (by-withdraw c) = ap (hears said) (means withdraw-says w (c .permits))
+  made-happens (by-guarantee c) = ap (hears said) (means guarantee-says w (c .permits))
+  made-happens (by-question c) = ap (hears told) (means question-says w (c .permits))
+  made-happens (by-trade c) = ap (hears said) (means trade-says w (c .permits))
+  made-happens (by-begin c) = ap (hears said) (means begin-says w (c .permits))
+  made-happens (by-step c) = ap (hears said) (means step-says w (c .permits))
+  made-happens (by-close c) = ap (hears said) (means close-says w (c .permits))
 
   -- calls one after another, each on the words that the one before it left
   pub data AllMade : List ℤ → List Event → List Answer → List ℤ → Type 1 where

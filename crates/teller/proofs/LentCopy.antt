@@ -86,8 +86,8 @@ window-clauses rule 𝓤 κs a = record {
   ensures = λ _ r end. fact 𝓤 (WindowSays rule (now (a .0)) (a .1 .0) r (now (end .0)));
 }
 
-abbrev Called : RecordRule → {M : Type 1} (𝓤 : URA M) (H : Heap 𝓤) (A : Atoms 𝓤) → Contract 𝓤
-Called rule 𝓤 H A = tripleOf 𝓤 H A (window-ended .signature) (closing 𝓤 H A window-ended (window-clauses rule 𝓤))
+abbrev WindowContract : RecordRule → {M : Type 1} (𝓤 : URA M) (H : Heap 𝓤) (A : Atoms 𝓤) → Contract 𝓤
+WindowContract rule 𝓤 H A = tripleOf 𝓤 H A (window-ended .signature) (closing 𝓤 H A window-ended (window-clauses rule 𝓤))
 
 -- the code, at a name of the callee
 abbrev pub lent-copy-fn : Name → Fn
@@ -197,20 +197,20 @@ module _ (rule : RecordRule) (callee : Name) {M : Type 1} (𝓤 : URA M) (H : He
   abbrev lent-args : ℕ → GName → RefT Account × (ℤ × (Unit {0}))
   lent-args l δ = (record { ptr = (l, 0); name = δ; now = before }, (x, tt))
 
-  abbrev passed : ℕ → ℕ → GName → Called rule 𝓤 H A .Ghost
+  abbrev passed : ℕ → ℕ → GName → WindowContract rule 𝓤 H A .Ghost
   passed l α δ = (((α ∷ [], tt), (fullShare, tt), tt, lent-args l δ, (vptr l 0 ∷ [], (amount-word x ∷ [], tt))), tt)
 
-  asked : (l α : ℕ) (δ : GName) → ent 𝓤 (sep 𝓤 (A .lft (α ∷ []) fullShare) (sem 𝓤 H A (Ref l α δ before))) (Called rule 𝓤 H A .pre (passed l α δ))
+  asked : (l α : ℕ) (δ : GName) → ent 𝓤 (sep 𝓤 (A .lft (α ∷ []) fullShare) (sem 𝓤 H A (Ref l α δ before))) (WindowContract rule 𝓤 H A .pre (passed l α δ))
   asked l α δ =
       qed W (‵ (flft (α ∷ []) fullShare) ∷ ‵ (Ref l α δ before) ∷ []) ∵
       nothing ! $ move ! (1 ∷ 0 ∷ []) $ join ! $
       nothing ! $ owned ! i64 (Is i64) (sint-makes 𝓤 H A W w64) x _ (refl, x-fits) $ fjoin ! $ move ! (2 ∷ 0 ∷ []) $ fjoin ! $
       move ! (1 ∷ 0 ∷ []) $ join ! $ frame ! $ done !
 
-  answered : (l α : ℕ) (δ : GName) (w : Val) → ent 𝓤 (Called rule 𝓤 H A .post (passed l α δ) w)
+  answered : (l α : ℕ) (δ : GName) (w : Val) → ent 𝓤 (WindowContract rule 𝓤 H A .post (passed l α δ) w)
       (H .⇛ (sep 𝓤 (sem 𝓤 H A (Replied (replyOf t) w)) (sep 𝓤 (A .lft (α ∷ []) fullShare) (sem 𝓤 H A (Last δ (t .account))))))
   answered l α δ w =
-      qed W (raw (Called rule 𝓤 H A .post (passed l α δ) w) ∷ []) ∵ updating ! $
+      qed W (raw (WindowContract rule 𝓤 H A .post (passed l α δ) w) ∷ []) ∵ updating ! $
       use1 W (later (some (λ (r : Reply). ((‵ (flft (α ∷ []) fullShare) ⊛ ‵ ftrue) ⊛ ‵ (Replied r w))
       ⊛ raw (ensured 𝓤 H A window-ended (window-clauses rule 𝓤) (α ∷ [], tt) (lent-args l δ) tt r)))) (id⊢ 𝓤 _) $ await ! tt $ pick ! (λ r.
       split ! $ move ! (1 ∷ []) $
@@ -230,7 +230,7 @@ module _ (rule : RecordRule) (callee : Name) {M : Type 1} (𝓤 : URA M) (H : He
       suffices ! _ (also 𝓤 _ _ (holds tt args g)) $ nothing ! $ frame ! $ nothing ! $ nothing ! $ fjoin ! $ nothing ! $ fjoin ! $
       owned ! TakenType.the-row (Is TakenType.the-row) (Struct.makes TakenType.the-type TakenLaws.the-plain 𝓤 H A) t _ is $ move ! (1 ∷ 0 ∷ []) $ done !
 
-  module _ (g : c tt args .ghost) (C : Calls 𝓤 H) (Λ : Loops 𝓤 H) (fm : FmC 𝓤 H (W .laws) C) (known : Triple 𝓤 (C callee) (Called rule 𝓤 H A)) where
+  module _ (g : c tt args .ghost) (C : Calls 𝓤 H) (Λ : Loops 𝓤 H) (fm : FmC 𝓤 H (W .laws) C) (known : Triple 𝓤 (C callee) (WindowContract rule 𝓤 H A)) where
     walk : ent 𝓤 (onEntry 𝓤 H A (value-ended .signature) tt tt args vals)
         (WpFn 𝓤 H C Λ (lent-copy-fn callee) (account-word before ∷ amount-word x ∷ []) (Post g))
     walk =
@@ -249,8 +249,8 @@ module _ (rule : RecordRule) (callee : Name) {M : Type 1} (𝓤 : URA M) (H : He
         split ! $ move ! (2 ∷ 0 ∷ []) $
         -- 4  callee(&mut lent, x). Then held: the reply 0; the token 1; the record at last 2; the lender's part 3; _6 4, _5 6, _4 8, what frees _3 10,
         --    _2 11, _1 13, _0 15
-        use2 W (raw (Called rule 𝓤 H A .pre (passed l₃ α δ))) (asked l₃ α δ) $
-        calls-at ! fm (Called rule 𝓤 H A) known (passed l₃ α δ)
+        use2 W (raw (WindowContract rule 𝓤 H A .pre (passed l₃ α δ))) (asked l₃ α δ) $
+        calls-at ! fm (WindowContract rule 𝓤 H A) known (passed l₃ α δ)
         (and-then ! (load ! (from ! (stop !)) (look ! 4 refl)) (and-then ! (load ! (from ! (stop !)) (look ! 9 refl)) (no-more !))) (λ w.
         use1 W (later (‵ (Replied (replyOf t) w) ⊛ (‵ (flft (α ∷ []) fullShare) ⊛ ‵ (Last δ (t .account))))) (answered l₃ α δ w) $ await ! tt $ split3 ! $
         peeks ! ReplyType.the-row (Is ReplyType.the-row) (shows 𝓤 H A ReplyType.the-row) (replyOf t) (w ∷ []) (λ replied.
@@ -280,7 +280,7 @@ module _ (rule : RecordRule) (callee : Name) {M : Type 1} (𝓤 : URA M) (H : He
 -- every record and every amount
 module _ (rule : RecordRule) (callee : Name) {M : Type 1} (𝓤 : URA M) (H : Heap 𝓤) (A : Atoms 𝓤) (W : Given 𝓤 H A)
     (c : Clauses 𝓤 value-ended) (holds : Answers rule 𝓤 c) where
-  lends-copy : (C : Calls 𝓤 H) (Λ : Loops 𝓤 H) → FmC 𝓤 H (W .laws) C → Triple 𝓤 (C callee) (Called rule 𝓤 H A)
+  lends-copy : (C : Calls 𝓤 H) (Λ : Loops 𝓤 H) → FmC 𝓤 H (W .laws) C → Triple 𝓤 (C callee) (WindowContract rule 𝓤 H A)
       → Walks 𝓤 H A value-ended stayed (WpFn 𝓤 H C Λ (lent-copy-fn callee)) c
   lends-copy C Λ fm known =
       walked 𝓤 H A value-ended stayed c (WpFn 𝓤 H C Λ (lent-copy-fn callee))
@@ -289,7 +289,7 @@ module _ (rule : RecordRule) (callee : Name) {M : Type 1} (𝓤 : URA M) (H : He
       (λ κs qs bounds a g are. via 𝓤 _ (fst∗ 𝓤 _ (c κs a .requires g))
       (walk rule callee 𝓤 H A W c holds (a .0) (are .0) (a .1 .0) (are .1 .0 .1) g C Λ fm known))
 
-  lent-copy-meets : (𝓣 : Tables 𝓤 H) → Triple 𝓤 (𝓣 .C callee) (Called rule 𝓤 H A)
+  lent-copy-meets : (𝓣 : Tables 𝓤 H) → Triple 𝓤 (𝓣 .C callee) (WindowContract rule 𝓤 H A)
       → Meets 𝓤 H A (value-ended .signature) (WpFn 𝓤 H (𝓣 .C) (𝓣 .Λ) (lent-copy-fn callee)) (closing 𝓤 H A value-ended c)
   lent-copy-meets 𝓣 known =
       walk-meets 𝓤 H A value-ended stayed W
@@ -309,4 +309,4 @@ lent-copy-law rule by-value callee env routine means 𝓤 H 𝓜 𝓖 𝓡 close
     entered 𝓤 H (tripleOf 𝓤 H (𝓖 .A) (value-ended .signature) (closing 𝓤 H (𝓖 .A) value-ended c))
     (tables 𝓤 H 𝓜 𝓡 env .C) (tables 𝓤 H 𝓜 𝓡 env .Λ) by-value (lent-copy-fn callee) closed
     (lent-copy-meets rule callee 𝓤 H (𝓖 .A) (givenOf 𝓤 H 𝓜 𝓖) c holds (tablesOf 𝓤 H 𝓜 (tables 𝓤 H 𝓜 𝓡 env))
-    (cited 𝓤 H (Called rule 𝓤 H (𝓖 .A)) 𝓜 𝓡 env callee routine means met))
+    (cited 𝓤 H (WindowContract rule 𝓤 H (𝓖 .A)) 𝓜 𝓡 env callee routine means met))

@@ -13,7 +13,7 @@ use lib.ListN.{length, getD, drop}
 use contract.Lifetimes.{Lfts}
 use denote.Ref.{RefT, now, at-last}
 use denote.Triple.Entry.{Args}
-use Rattle.contracts.specs.Says.{World, Permits, means}
+use Rattle.contracts.specs.Says.{World, Permits, means, permitted}
 use Rattle.whole.specs.Number.{minZ, maxZ, takesAway, floorDiv}
 use Rattle.whole.specs.Tests.{clash}
 use Rattle.rules.specs.declared.Account.{Account}
@@ -26,7 +26,7 @@ use Rattle.places.specs.ByAccount.{byAccount}
 use Rattle.places.specs.Act.{Rule, soundBy, performBy}
 use Rattle.soundness.specs.Perform.{perform, ask}
 use Rattle.acts.specs.Requests.{questionRule}
-use Rattle.acts.specs.Run.{stepRule}
+use Rattle.acts.specs.Run.{beginRule, stepRule}
 use Rattle.shares.specs.Loss.{lossShared}
 use Rattle.shares.specs.LossExamples.{deposits as member-deposits, differences, marks, blank, worked, refused}
 use Rattle.lines.specs.Bytes.{bytes}
@@ -120,6 +120,10 @@ module _ (w : World) (κs : Lfts 1) where
   pub begin : NotEmpty (λ l r z. Permits begins w κs (l, tt) r (z, tt))
   begin = not-empty _ _ _ _ (λ l r z. means begin-says w) (acceptances .begin) 2 refl
 
+  -- and something meets it: the rule itself
+  pub begin-met : Meets (λ l r z. Permits begins w κs (l, tt) r (z, tt)) (λ W. perform byAccount W beginRule)
+  begin-met l = permitted begin-says w refl
+
   -- the broker's due 0
   abbrev Stepped : Permitted
   Stepped l r z = Permits steps w κs (l, tt) r (z, tt)
@@ -143,10 +147,10 @@ module _ (w : World) (κs : Lfts 1) where
       ∙ ap (λ p. sizeAt (p .1) 24) (met stepRule by-step f m _ ∙ acceptances .last-step)
 
 -- the broker's due 0; the lists are those of `closeAt`
-abbrev closing : (κs : Lfts 5) → RefT (List ℤ) → Args close-fn.signature κs
-closing κs l = (l, (lent (pos 1502600 ∷ []), (lent (pos 400 ∷ []), (lent (pos 400 ∷ []), (lent (pos 0 ∷ []), tt)))))
+abbrev close-args : (κs : Lfts 5) → RefT (List ℤ) → Args close-fn.signature κs
+close-args κs l = (l, (lent (pos 1502600 ∷ []), (lent (pos 400 ∷ []), (lent (pos 400 ∷ []), (lent (pos 0 ∷ []), tt)))))
 
-pub close : (w : World) (κs : Lfts 5) → NotEmpty (λ l r z. Permits closes w κs (closing κs l) r (closing κs z))
+pub close : (w : World) (κs : Lfts 5) → NotEmpty (λ l r z. Permits closes w κs (close-args κs l) r (close-args κs z))
 close w κs = not-empty _ _ _ _ (λ l r z. means close-says w) (acceptances .close) 14 refl
 
 -- ---- what leaves the ledger alone by right, and what has no ledger
@@ -194,18 +198,18 @@ abbrev pub Window : Type 0
 Window = Account → Reply × Account
 
 -- what a window's contract permits, of a record lent for change, a reply, and the record at exit
-abbrev pub AtWindow : Type 2
-AtWindow = RefT Account → Reply → RefT Account → Type 1
+abbrev pub WindowPermits : Type 2
+WindowPermits = RefT Account → Reply → RefT Account → Type 1
 
-abbrev pub WindowMeets : AtWindow → Window → Type 1
+abbrev pub WindowMeets : WindowPermits → Window → Type 1
 WindowMeets permits f = (l : RefT Account) → permits l (f (now l) .0) (at-last l (f (now l) .1))
 
-pub record WindowNotEmpty (permits : AtWindow) : Type 1 where
+pub record WindowNotEmpty (permits : WindowPermits) : Type 1 where
   pub not-refusing : (f : Window) → WindowMeets permits f → ((a : Account) → f a .0 .number ≡ 0 → ⊥) → ⊥
   pub not-constant : (f : Window) → WindowMeets permits f → (r : Reply) → ((a : Account) → f a .0 ≡ r) → ⊥
   pub not-idle : (f : Window) → WindowMeets permits f → ((a : Account) → f a .1 ≡ a) → ⊥
 
-pub window-not-empty : {permits : AtWindow} (call : Account → Taken)
+pub window-not-empty : {permits : WindowPermits} (call : Account → Taken)
     → ((l : RefT Account) (r : Reply) (z : RefT Account) → permits l r z → (r ≡ replyOf (call (now l))) × (now z ≡ call (now l) .account))
     → (good bad : Account) → call good .number ≡ 0 → call bad .number ≡ 1 → eqb (natAbs (call good .account .cash)) (natAbs (good .cash)) ≡ false
     → WindowNotEmpty permits
@@ -243,18 +247,18 @@ module _ (w : World) (κs : Lfts 2) (f : List ℕ → List ℕ → ℕ × List �
   sheet-met : (text out : List ℕ) → f text out ≡ answerOf (sheetOf theLedger text) out
   sheet-met text out = means sheet-says w (meets text out)
 
-  written : (text sheet : List ℕ) → sheetOf theLedger text ≡ sheet → f text out ≡ (length sheet, sheet ++ drop (length sheet) out)
-  written text sheet e = sheet-met text out ∙ rw (e, le-ltb (length out) 65536 fits) refl
+  sheet-written : (text sheet : List ℕ) → sheetOf theLedger text ≡ sheet → f text out ≡ (length sheet, sheet ++ drop (length sheet) out)
+  sheet-written text sheet e = sheet-met text out ∙ rw (e, le-ltb (length out) 65536 fits) refl
 
   pub sheet-not-constant : (r : ℕ) → ((text : List ℕ) → f text out .0 ≡ r) → ⊥
   sheet-not-constant r same =
-      let h : r ≡ 108 = sym (same input) ∙ ap (λ p. p .0) (written input output the-sheet) in
-      let k : r ≡ 6 = sym (same []) ∙ ap (λ p. p .0) (written [] (bytes "BAD 1\n") no-text) in
+      let h : r ≡ 108 = sym (same input) ∙ ap (λ p. p .0) (sheet-written input output the-sheet) in
+      let k : r ≡ 6 = sym (same []) ∙ ap (λ p. p .0) (sheet-written [] (bytes "BAD 1\n") no-text) in
       absurd (omega arith)
 
   -- the first byte is an F, and a B
   pub sheet-not-idle : ((text : List ℕ) → f text out .1 ≡ out) → ⊥
   sheet-not-idle stays =
-      let h : getD out 0 0 ≡ 70 = sym (ap (λ l. getD l 0 0) (stays input)) ∙ ap (λ p. getD (p .1) 0 0) (written input output the-sheet) in
-      let k : getD out 0 0 ≡ 66 = sym (ap (λ l. getD l 0 0) (stays [])) ∙ ap (λ p. getD (p .1) 0 0) (written [] (bytes "BAD 1\n") no-text) in
+      let h : getD out 0 0 ≡ 70 = sym (ap (λ l. getD l 0 0) (stays input)) ∙ ap (λ p. getD (p .1) 0 0) (sheet-written input output the-sheet) in
+      let k : getD out 0 0 ≡ 66 = sym (ap (λ l. getD l 0 0) (stays [])) ∙ ap (λ p. getD (p .1) 0 0) (sheet-written [] (bytes "BAD 1\n") no-text) in
       absurd (omega arith)

@@ -120,27 +120,27 @@ pub one-if-most : (t : Bool) → one-if t ≤ 1
 one-if-most true = omega arith
 one-if-most false = omega arith
 
-pub count-le : (n : ℕ) (p q : ℕ → Bool) → ((i : ℕ) → i < n → p i ≡ true → q i ≡ true) → howMany n p ≤ howMany n q
-count-le n p q h = total-le n (λ i. one-if (p i)) (λ i. one-if (q i)) (λ i b. one-if-le (p i) (q i) (h i b))
+pub many-le : (n : ℕ) (p q : ℕ → Bool) → ((i : ℕ) → i < n → p i ≡ true → q i ≡ true) → howMany n p ≤ howMany n q
+many-le n p q h = total-le n (λ i. one-if (p i)) (λ i. one-if (q i)) (λ i b. one-if-le (p i) (q i) (h i b))
 
-pub count-lt : (n : ℕ) (p q : ℕ → Bool) (k : ℕ) → k < n → p k ≡ false → q k ≡ true → ((i : ℕ) → i < n → p i ≡ true → q i ≡ true) → howMany n p < howMany n q
-count-lt n p q k b s t h = total-lt n (λ i. one-if (p i)) (λ i. one-if (q i)) k b (rw (s, t) (omega arith)) (λ i c. one-if-le (p i) (q i) (h i c))
+pub many-lt : (n : ℕ) (p q : ℕ → Bool) (k : ℕ) → k < n → p k ≡ false → q k ≡ true → ((i : ℕ) → i < n → p i ≡ true → q i ≡ true) → howMany n p < howMany n q
+many-lt n p q k b s t h = total-lt n (λ i. one-if (p i)) (λ i. one-if (q i)) k b (rw (s, t) (omega arith)) (λ i c. one-if-le (p i) (q i) (h i c))
 
-pub count-none : (n : ℕ) (p : ℕ → Bool) → ((i : ℕ) → i < n → p i ≡ false) → howMany n p ≡ 0
-count-none zero p h = refl
-count-none (suc n) p h = rw (h n (omega arith)) (omega (arith, count-none n p (λ i c. h i (omega arith))))
+pub many-none : (n : ℕ) (p : ℕ → Bool) → ((i : ℕ) → i < n → p i ≡ false) → howMany n p ≡ 0
+many-none zero p h = refl
+many-none (suc n) p h = rw (h n (omega arith)) (omega (arith, many-none n p (λ i c. h i (omega arith))))
 
-pub count-all : (n : ℕ) (p : ℕ → Bool) → ((i : ℕ) → i < n → p i ≡ true) → howMany n p ≡ n
-count-all zero p h = refl
-count-all (suc n) p h = rw (h n (omega arith)) (omega (arith, count-all n p (λ i c. h i (omega arith))))
+pub many-all : (n : ℕ) (p : ℕ → Bool) → ((i : ℕ) → i < n → p i ≡ true) → howMany n p ≡ n
+many-all zero p h = refl
+many-all (suc n) p h = rw (h n (omega arith)) (omega (arith, many-all n p (λ i c. h i (omega arith))))
 
 -- a test that no two indices pass
-pub count-once : (n : ℕ) (p : ℕ → Bool) → ((i j : ℕ) → i < j → j < n → p i ≡ true → p j ≡ true → ⊥) → howMany n p ≤ 1
-count-once zero p h = zero-le
-count-once (suc n) p h =
+pub many-once : (n : ℕ) (p : ℕ → Bool) → ((i j : ℕ) → i < j → j < n → p i ≡ true → p j ≡ true → ⊥) → howMany n p ≤ 1
+many-once zero p h = zero-le
+many-once (suc n) p h =
     ⊎-elim
-    (λ e. rw e (omega (arith, count-none n p (λ i b. is-false (p i) (λ q. h i n b (omega arith) q e)))))
-    (λ e. rw e (omega (arith, count-once n p (λ i j b c. h i j b (omega arith)))))
+    (λ e. rw e (omega (arith, many-none n p (λ i b. is-false (p i) (λ q. h i n b (omega arith) q e)))))
+    (λ e. rw e (omega (arith, many-once n p (λ i j b c. h i j b (omega arith)))))
     (true-or-false (p n))
 
 -- a loop's turn: the next number is added

@@ -62,24 +62,24 @@ rep-word-ok z h = rep-word z (record { sfits = h })
 pub record Each (b : ℕ) (s : List ℤ) : Type 0 where
   pub at : (k : ℕ) → natAbs (getD s k (pos 0)) ≤ b
 
-abbrev pub Below : ℤ → ℕ → Type 0
-Below z b = (natAbs z ≡ pp z + nn z) × (natAbs z ≤ b)
+abbrev pub AtMost : ℤ → ℕ → Type 0
+AtMost z b = (natAbs z ≡ pp z + nn z) × (natAbs z ≤ b)
 
 pub small : (z : ℤ) (b : ℕ) → natAbs z ≤ b → b < 2 ^ 63 → SFits w64 z
 small z b h i = sfits-pn z (omega (arith, abs-is z)) (omega (arith, abs-is z))
 
-pub below-told : (z : ℤ) (b : ℕ) → natAbs z ≤ b → Below z b
-below-told z b h = (abs-is z, h)
+pub at-most-told : (z : ℤ) (b : ℕ) → natAbs z ≤ b → AtMost z b
+at-most-told z b h = (abs-is z, h)
 
 -- for `simp`: every read of a word of s, at once
 pub reads : {b : ℕ} {s : List ℤ} → Each b s → T (ltb b (2 ^ 63)) → (k : ℕ) → toZ w64 (ofZ w64 (getD s k (pos 0))) ≡ getD s k (pos 0)
 reads {b} {s} e t k = toZ-ofZ w64 (getD s k (pos 0)) (small (getD s k (pos 0)) b (e .at k) (ltb→lt b (2 ^ 63) t))
 
 abbrev pub rep-get : (b : ℕ) (s : List ℤ) (k : ℕ) → Each b s → Rep (getD s k (pos 0))
-rep-get b s k e = record { p = pp (getD s k (pos 0)); n = nn (getD s k (pos 0)); need = Unit {0}; known = Below (getD s k (pos 0)) b; told = below-told (getD s k (pos 0)) b (e .at k); is = λ h. omega arith }
+rep-get b s k e = record { p = pp (getD s k (pos 0)); n = nn (getD s k (pos 0)); need = Unit {0}; known = AtMost (getD s k (pos 0)) b; told = at-most-told (getD s k (pos 0)) b (e .at k); is = λ h. omega arith }
 
 abbrev pub rep-get-word : (b : ℕ) (s : List ℤ) (k : ℕ) → Each b s → Rep (toZ w64 (ofZ w64 (getD s k (pos 0))))
-rep-get-word b s k e = record { p = pp (getD s k (pos 0)); n = nn (getD s k (pos 0)); need = b < 2 ^ 63; known = Below (getD s k (pos 0)) b; told = below-told (getD s k (pos 0)) b (e .at k); is = λ h. word-is (getD s k (pos 0)) (small (getD s k (pos 0)) b (e .at k) h) }
+rep-get-word b s k e = record { p = pp (getD s k (pos 0)); n = nn (getD s k (pos 0)); need = b < 2 ^ 63; known = AtMost (getD s k (pos 0)) b; told = at-most-told (getD s k (pos 0)) b (e .at k); is = λ h. word-is (getD s k (pos 0)) (small (getD s k (pos 0)) b (e .at k) h) }
 
 abbrev pub rep-bits : (z : ℤ) → Rep z → Rep (toZ w64 (ofZ w64 z))
 rep-bits z r = record { p = r .p; n = r .n; need = r .need × (r .p < 2 ^ 63 + r .n) × (r .n ≤ 2 ^ 63 + r .p); known = r .known; told = r .told; is = λ h. bits-is z (r .p) (r .n) (r .is (h .0)) (h .1) (h .2) }
@@ -258,10 +258,10 @@ abbrev pub num-back : (z : ℤ) → SFits w64 z → Num (natAbs (toZ w64 (ofZ w6
 num-back z h = record { v = natAbs z; need = Unit {0}; known = Word z; told = word z h; is = λ i. word-back z h }
 
 abbrev pub num-get : (b : ℕ) (s : List ℤ) (k : ℕ) → Each b s → Num (natAbs (getD s k (pos 0)))
-num-get b s k e = record { v = natAbs (getD s k (pos 0)); need = Unit {0}; known = Below (getD s k (pos 0)) b; told = below-told (getD s k (pos 0)) b (e .at k); is = λ h. refl }
+num-get b s k e = record { v = natAbs (getD s k (pos 0)); need = Unit {0}; known = AtMost (getD s k (pos 0)) b; told = at-most-told (getD s k (pos 0)) b (e .at k); is = λ h. refl }
 
 abbrev pub num-get-back : (b : ℕ) (s : List ℤ) (k : ℕ) → Each b s → Num (natAbs (toZ w64 (ofZ w64 (getD s k (pos 0)))))
-num-get-back b s k e = record { v = natAbs (getD s k (pos 0)); need = b < 2 ^ 63; known = Below (getD s k (pos 0)) b; told = below-told (getD s k (pos 0)) b (e .at k); is = λ h. word-back (getD s k (pos 0)) (small (getD s k (pos 0)) b (e .at k) h) }
+num-get-back b s k e = record { v = natAbs (getD s k (pos 0)); need = b < 2 ^ 63; known = AtMost (getD s k (pos 0)) b; told = at-most-told (getD s k (pos 0)) b (e .at k); is = λ h. word-back (getD s k (pos 0)) (small (getD s k (pos 0)) b (e .at k) h) }
 
 abbrev pub num-add : (a b : ℕ) → Num a → Num b → Num (a + b)
 num-add a b r s = record { v = r .v + s .v; need = r .need × s .need; known = r .known × s .known; told = (r .told, s .told); is = λ h. ap₂ _+_ (r .is (h .0)) (s .is (h .1)) }

@@ -35,7 +35,7 @@ fn check(path: &str) -> ExitCode {
     };
     let clerks: &[(&str, &dyn second::clerk::Clerk)] = &[
         ("this program", &Plain),
-        #[cfg(window)]
+        #[cfg(interface)]
         ("the archive", &second::interface::Interface),
     ];
     for (name, clerk) in clerks {

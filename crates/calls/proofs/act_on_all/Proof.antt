@@ -2,7 +2,7 @@
 use mathlib.Core.Path.{_≡_, refl, _∙_, ap}
 use borrow.Author.Tests.{eq-eqb, ne-eqb}
 use Rattle.dayfile.specs.CallLines.{Call, begin, step, none}
-use Rattle.calls.specs.InsideCalls.{tradeOf, closeOf, callOnAll}
+use Rattle.calls.specs.InsideCalls.{tradeBy, closeBy, callOnAll}
 use Rattle.calls.specs.Ledger.{theLedger}
 use Rattle.calls.specs.LedgerLaws.{acted}
 use borrow.Author.Needs.{needs}
@@ -51,7 +51,7 @@ returns-3 c =
     let b = c .before .before .before .before .before .before in
     let W = b .args .words .now in
     let v = b .args .figures .now in
-    let call-is : tradeOf v ≡ callOnAll (b .args .s .p) (b .args .letter) v = simp (ne-eqb _ _ (c .before .before .before .before .before .if1 .left), ne-eqb _ _ (c .before .before .before .before .if2 .left), eq-eqb _ _ (c .before .before .before .if3 .taken)) in
+    let call-is : tradeBy v ≡ callOnAll (b .args .s .p) (b .args .letter) v = simp (ne-eqb _ _ (c .before .before .before .before .before .if1 .left), ne-eqb _ _ (c .before .before .before .before .if2 .left), eq-eqb _ _ (c .before .before .before .if3 .taken)) in
     c .before .trade .ensures ∙ ap (λ (k : Call). theLedger .perform k W) call-is
 
 close-requires : tie.Need-close-requires
@@ -66,7 +66,7 @@ returns-4 c =
     let b = c .before .before .before .before .before .before .before in
     let W = b .args .words .now in
     let v = b .args .figures .now in
-    let call-is : closeOf (b .args .s .p) v ≡ callOnAll (b .args .s .p) (b .args .letter) v = simp (ne-eqb _ _ (c .before .before .before .before .before .before .if1 .left), ne-eqb _ _ (c .before .before .before .before .before .if2 .left), ne-eqb _ _ (c .before .before .before .before .if3 .left), eq-eqb _ _ (c .before .before .before .if4 .taken)) in
+    let call-is : closeBy (b .args .s .p) v ≡ callOnAll (b .args .s .p) (b .args .letter) v = simp (ne-eqb _ _ (c .before .before .before .before .before .before .if1 .left), ne-eqb _ _ (c .before .before .before .before .before .if2 .left), ne-eqb _ _ (c .before .before .before .before .if3 .left), eq-eqb _ _ (c .before .before .before .if4 .taken)) in
     c .before .close .ensures ∙ ap (λ (k : Call). theLedger .perform k W) call-is
 
 returns-5 : tie.Need-returns-5

@@ -5,7 +5,7 @@ use Rattle.places.specs.Place.{get}
 use Rattle.places.specs.Act.{finish}
 use Rattle.places.specs.ByAccount.{byAccount}
 use Rattle.closing.specs.Close.{closeRule}
-use Rattle.calls.specs.InsideCalls.{closeOf}
+use Rattle.calls.specs.InsideCalls.{closeBy}
 use Rattle.calls.specs.LedgerLaws.{acted}
 use Rattle.calls.specs.LedgerLaws.{column-length, column-taken}
 use borrow.Author.Needs.{needs}
@@ -82,7 +82,7 @@ returns c =
     let e1 = column-taken _ 1 (b .args .s .p) (b .args .figures .now) _ (b .pre .sized .few′) (c .before .before .before .before .before .before .before .before .before .before .before .before .before .before .column-into2 .ensures) in
     let e2 = column-taken _ 2 (b .args .s .p) (b .args .figures .now) _ (b .pre .sized .few′) (c .before .before .before .before .before .before .before .before .before .before .before .column-into3 .ensures) in
     let e3 = column-taken _ 3 (b .args .s .p) (b .args .figures .now) _ (b .pre .sized .few′) (c .before .before .before .before .before .before .before .before .column-into4 .ensures) in
-    acted (b .args .s) W (b .pre) (closeOf (b .args .s .p) (b .args .figures .now)) refl
+    acted (b .args .s) W (b .pre) (closeBy (b .args .s .p) (b .args .figures .now)) refl
     (c .before .close-in .ensures ∙ (λ i. finish byAccount (b .args .s) W (closeRule (e0 i) (e1 i) (e2 i) (e3 i) (b .args .s) (get byAccount (b .args .s) W))))
 
 pub close-spec : {M : Type 1} → statement M

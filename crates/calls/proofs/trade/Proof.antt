@@ -5,7 +5,7 @@ use Rattle.places.specs.Place.{get}
 use Rattle.places.specs.Act.{finish}
 use Rattle.places.specs.ByAccount.{byAccount}
 use Rattle.acts.specs.Trade.{tradeRule}
-use Rattle.calls.specs.InsideCalls.{tradeOf}
+use Rattle.calls.specs.InsideCalls.{tradeBy}
 use Rattle.calls.specs.LedgerLaws.{acted}
 use borrow.Author.Needs.{needs}
 use Rattle.calls.proofs.trade.Statement.{statement}
@@ -42,7 +42,7 @@ returns c =
     let e2 = came (c .before .before .before .before .before .figure-at3 .result) (c .before .before .before .before .before .figure-at3 .ok) (c .before .before .before .before .before .figure-at3 .ensures) in
     let e3 = came (c .before .before .before .before .figure-at4 .result) (c .before .before .before .before .figure-at4 .ok) (c .before .before .before .before .figure-at4 .ensures) in
     let e4 = came (c .before .before .before .figure-at5 .result) (c .before .before .before .figure-at5 .ok) (c .before .before .before .figure-at5 .ensures) in
-    acted (b .args .s) W (b .pre) (tradeOf v) refl
+    acted (b .args .s) W (b .pre) (tradeBy v) refl
     (c .before .trade-in .ensures ∙ (λ i. finish byAccount (b .args .s) W (tradeRule (e0 i) (e1 i) (e2 i) (e3 i) (e4 i) (b .args .s) (get byAccount (b .args .s) W))))
 
 pub trade-spec : {M : Type 1} → statement M

@@ -63,8 +63,8 @@ returns-2 c =
     refused-as byAccount (S s) (W s) (c .refused2 .result) 7 _ (c .refused2 .ensures)
     (refused-7 (a .prices .now) (a .rates8 .now) (a .rates104 .now) (a .lags .now) (S s) (g s) (lengths one) (fails (f .phase-is .ensures) (c .before .if2 .taken)))
 
-figures-ok-requires : tie.Need-figures-ok-requires
-figures-ok-requires c κs =
+lists-ok-requires : tie.Need-lists-ok-requires
+lists-ok-requires c κs =
     let one = c .before .before .before .before in
     (one .before .before .pre .sized, long one)
 
@@ -78,12 +78,12 @@ returns-3 : tie.Need-returns-3
 returns-3 c =
     let f = c .before .before in let two = f .before .before in let one = two .before .before .before in let s = one .before .before in let a = s .args in
     refused-as byAccount (S s) (W s) (c .refused3 .result) 8 _ (c .refused3 .ensures)
-    (refused-8 (a .prices .now) (a .rates8 .now) (a .rates104 .now) (a .lags .now) (S s) (g s) (lengths one) (holds (two .before .phase-is .ensures) (two .if2 .left)) (fails (f .figures-ok .ensures) (c .before .if3 .taken)))
+    (refused-8 (a .prices .now) (a .rates8 .now) (a .rates104 .now) (a .lags .now) (S s) (g s) (lengths one) (holds (two .before .phase-is .ensures) (two .if2 .left)) (fails (f .lists-ok .ensures) (c .before .if3 .taken)))
 
 close-all-requires : tie.Need-close-all-requires
 close-all-requires c κs =
     let three = c .before in let one = three .before .before .before .before .before .before in
-    (one .before .before .pre, (long one, holds (three .before .figures-ok .ensures) (three .if3 .left)))
+    (one .before .before .pre, (long one, holds (three .before .lists-ok .ensures) (three .if3 .left)))
 
 same-length-3 : tie.Need-same-length-3
 same-length-3 c = search needs
@@ -92,7 +92,7 @@ returns-4 : tie.Need-returns-4
 returns-4 c =
     let d = c .before in let three = d .before .before in let two = three .before .before .before in let one = two .before .before .before in let s = one .before .before in let a = s .args in
     d .close-all .ensures
-    ∙ sym (ap (finish byAccount (S s) (W s)) (taken (a .prices .now) (a .rates8 .now) (a .rates104 .now) (a .lags .now) (S s) (g s) (lengths one) (holds (two .before .phase-is .ensures) (two .if2 .left)) (holds (three .before .figures-ok .ensures) (three .if3 .left))))
+    ∙ sym (ap (finish byAccount (S s) (W s)) (taken (a .prices .now) (a .rates8 .now) (a .rates104 .now) (a .lags .now) (S s) (g s) (lengths one) (holds (two .before .phase-is .ensures) (two .if2 .left)) (holds (three .before .lists-ok .ensures) (three .if3 .left))))
 
 pub close-in-spec : {M : Type 1} → statement M
 close-in-spec =
@@ -106,7 +106,7 @@ close-in-spec =
     refused-requires-2
     same-length
     returns-2
-    figures-ok-requires
+    lists-ok-requires
     refused-requires-3
     same-length-2
     returns-3

@@ -23,13 +23,13 @@ use Rattle.daily.specs.Ranges.{due-in, next-in}
 use Rattle.closing.proofs.first_over.Statement.{statement}
 use Rattle.closing.proofs.first_over.Tie as tie
 
-abbrev size : List ℤ → Shape → List ℤ → List ℤ → ℕ → ℕ → ℕ
-size W s prices lags a d = natAbs (newDue prices lags s (get byAccount s W) a d)
+abbrev due-abs : List ℤ → Shape → List ℤ → List ℤ → ℕ → ℕ → ℕ
+due-abs W s prices lags a d = natAbs (newDue prices lags s (get byAccount s W) a d)
 
 -- the gross of the cash and the first d new dues, still in range
 abbrev Inv-loop : tie.InvT-loop
 Inv-loop words s prices lags new n a gross₀ d₀ gross d =
-    (d ≤ dues) × (gross ≡ natAbs (get byAccount s words (cash a)) + total d (size words s prices lags a)) × (gross ≤ mostGross)
+    (d ≤ dues) × (gross ≡ natAbs (get byAccount s words (cash a)) + total d (due-abs words s prices lags a)) × (gross ≤ mostGross)
 
 abbrev μ-loop : tie.MeasureT-loop
 μ-loop words s prices lags new n a gross₀ d₀ gross d = dues - d
@@ -52,7 +52,7 @@ abbrev due : Start → ℕ → ℕ → ℤ
 due s a d = newDue (s .args .prices .now) (s .args .lags .now) (s .args .s) (g s) a d
 
 abbrev sizes : Start → ℕ → ℕ → ℕ
-sizes s = size (s .args .words .now) (s .args .s) (s .args .prices .now) (s .args .lags .now)
+sizes s = due-abs (s .args .words .now) (s .args .s) (s .args .prices .now) (s .args .lags .now)
 
 abbrev test : Start → ℕ → Bool
 test s = overGross (s .args .prices .now) (s .args .lags .now) (s .args .s) (g s)
@@ -72,7 +72,7 @@ module _ (c : tie.After-new-dues Inv-loop μ-loop Inv-search μ-search) where
 cash-is : (c : tie.After-nat-abs Inv-loop μ-loop Inv-search μ-search) → let a = c .before .before .before .before .before .before in c .nat-abs .result ≡ natAbs (g (a .before) (cash (a .search .a)))
 cash-is c = let w = c .before .acct-word in c .nat-abs .ensures ∙ ap natAbs (came (w .result) (w .ok) (w .ensures))
 
--- the size of a new due
+-- the due-abs of a new due
 got : (c : tie.After-nat-abs2 Inv-loop μ-loop Inv-search μ-search) → let l = c .before .before .before in let a = searched (l .before .before .before .before) in
     (c .nat-abs2 .result ≡ sizes (a .before) (a .search .a) (l .loop .d)) × (sizes (a .before) (a .search .a) (l .loop .d) ≤ 1480000000000000)
 got c =

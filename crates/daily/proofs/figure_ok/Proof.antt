@@ -13,55 +13,55 @@ use Rattle.daily.proofs.figure_ok.Statement.{statement}
 use Rattle.daily.proofs.figure_ok.Tie as tie
 
 -- the first test is of the price, against its kind's bound
-priced : (c : tie.After-word-between) → let s = c .before .before in
-    c .word-between .result ≡ between (pos 1) (pos (mostPrice (get byAccount (s .args .s) (s .args .words .now) (productKind (s .args .j))))) (figureAt (s .args .prices .now) (s .args .j))
+priced : (c : tie.After-figure-between) → let s = c .before .before in
+    c .figure-between .result ≡ between (pos 1) (pos (mostPrice (get byAccount (s .args .s) (s .args .words .now) (productKind (s .args .j))))) (figureAt (s .args .prices .now) (s .args .j))
 priced c =
     let s = c .before .before in let h = c .before .highest-price in
-    c .word-between .ensures ∙ ap (λ z. between (pos 1) z (figureAt (s .args .prices .now) (s .args .j))) (came (h .result) (h .ok) (h .ensures))
+    c .figure-between .ensures ∙ ap (λ z. between (pos 1) z (figureAt (s .args .prices .now) (s .args .j))) (came (h .result) (h .ok) (h .ensures))
 
 highest-price-requires : tie.Need-highest-price-requires
 highest-price-requires c κs = search needs
 
-word-between-requires : tie.Need-word-between-requires
-word-between-requires c κs = search needs
+figure-between-requires : tie.Need-figure-between-requires
+figure-between-requires c κs = search needs
 
 returns : tie.Need-returns
 returns c = simp (fails (priced (c .before)) (c .if1 .taken))
 
-word-between-requires-2 : tie.Need-word-between-requires-2
-word-between-requires-2 c κs = search needs
+figure-between-requires-2 : tie.Need-figure-between-requires-2
+figure-between-requires-2 c κs = search needs
 
 returns-2 : tie.Need-returns-2
 returns-2 c =
     let d = c .before .before in
-    simp (holds (priced (d .before)) (d .if1 .left), fails (c .before .word-between2 .ensures) (c .if2 .taken))
+    simp (holds (priced (d .before)) (d .if1 .left), fails (c .before .figure-between2 .ensures) (c .if2 .taken))
 
-word-between-requires-3 : tie.Need-word-between-requires-3
-word-between-requires-3 c κs = search needs
+figure-between-requires-3 : tie.Need-figure-between-requires-3
+figure-between-requires-3 c κs = search needs
 
 returns-3 : tie.Need-returns-3
 returns-3 c =
     let e = c .before .before in let d = e .before .before in
-    simp (holds (priced (d .before)) (d .if1 .left), holds (e .before .word-between2 .ensures) (e .if2 .left), fails (c .before .word-between3 .ensures) (c .if3 .taken))
+    simp (holds (priced (d .before)) (d .if1 .left), holds (e .before .figure-between2 .ensures) (e .if2 .left), fails (c .before .figure-between3 .ensures) (c .if3 .taken))
 
-word-between-requires-4 : tie.Need-word-between-requires-4
-word-between-requires-4 c κs = search needs
+figure-between-requires-4 : tie.Need-figure-between-requires-4
+figure-between-requires-4 c κs = search needs
 
 returns-4 : tie.Need-returns-4
 returns-4 c =
     let f = c .before in let e = f .before .before in let d = e .before .before in
-    simp (holds (priced (d .before)) (d .if1 .left), holds (e .before .word-between2 .ensures) (e .if2 .left), holds (f .before .word-between3 .ensures) (f .if3 .left)) (c .word-between4 .ensures)
+    simp (holds (priced (d .before)) (d .if1 .left), holds (e .before .figure-between2 .ensures) (e .if2 .left), holds (f .before .figure-between3 .ensures) (f .if3 .left)) (c .figure-between4 .ensures)
 
 pub figure-ok-spec : {M : Type 1} → statement M
 figure-ok-spec =
     tie.close
     (tie.spec
     highest-price-requires
-    word-between-requires
+    figure-between-requires
     returns
-    word-between-requires-2
+    figure-between-requires-2
     returns-2
-    word-between-requires-3
+    figure-between-requires-3
     returns-3
-    word-between-requires-4
+    figure-between-requires-4
     returns-4)

@@ -5,7 +5,7 @@ use Prim.Native.Nat.{_-_, _+_, _*_}
 use native.Mathlib.Omega.{arith}
 use borrow.Author.Needs.{needs}
 use lib.ListN.{length, getD}
-use Rattle.lines.proofs.TextLaws.{Seen, seen-none, seen-done, seen-more, seen-large, run-end, run-low, run-high}
+use Rattle.lines.proofs.TextLaws.{Seen, seen-none, seen-done, seen-more, seen-large, leading-end, leading-low, leading-high}
 use Rattle.lines.proofs.digits.Statement.{statement}
 use Rattle.lines.proofs.digits.Tie as tie
 
@@ -25,13 +25,13 @@ returns : tie.Need-returns Inv-loop μ-loop
 returns c =
     let l = c .before .before .before .loop in
     let a = c .before .before .before .before .before .args in
-    seen-done (a .text .now) (a .at) (l .i) (l .value) (run-low (a .text .now) (l .i) (omega arith) (omega arith)) (l .inv)
+    seen-done (a .text .now) (a .at) (l .i) (l .value) (leading-low (a .text .now) (l .i) (omega arith) (omega arith)) (l .inv)
 
 returns-2 : tie.Need-returns-2 Inv-loop μ-loop
 returns-2 c =
     let l = c .before .before .before .before .loop in
     let a = c .before .before .before .before .before .before .args in
-    seen-done (a .text .now) (a .at) (l .i) (l .value) (run-high (a .text .now) (l .i) (omega arith) (omega arith) (omega arith)) (l .inv)
+    seen-done (a .text .now) (a .at) (l .i) (l .value) (leading-high (a .text .now) (l .i) (omega arith) (omega arith) (omega arith)) (l .inv)
 
 mul-value : tie.Need-mul-value Inv-loop μ-loop
 mul-value c = search needs
@@ -66,7 +66,7 @@ returns-3 : tie.Need-returns-3 Inv-loop μ-loop
 returns-3 c =
     let l = c .before .loop in
     let a = c .before .before .before .args in
-    seen-done (a .text .now) (a .at) (l .i) (l .value) (run-end (a .text .now) (l .i) (omega arith)) (l .inv)
+    seen-done (a .text .now) (a .at) (l .i) (l .value) (leading-end (a .text .now) (l .i) (omega arith)) (l .inv)
 
 pub digits-spec : {M : Type 1} → statement M
 digits-spec =

@@ -15,21 +15,21 @@ mul-kind c = search needs
 slice-set-from-kind : tie.Need-slice-set-from-kind
 slice-set-from-kind c = search needs
 
-add-fields : tie.Need-add-fields
-add-fields c = search needs
+add-figures-into : tie.Need-add-figures-into
+add-figures-into c = search needs
 
-fields-requires : tie.Need-fields-requires
-fields-requires c κs = simp length-set (omega arith)
+figures-into-requires : tie.Need-figures-into-requires
+figures-into-requires c κs = simp length-set (omega arith)
 
 same-length : tie.Need-same-length
-same-length c = c .before .fields .kept .1 .1 .1 .0 ∙ simp length-set
+same-length c = c .before .figures-into .kept .1 .1 .1 .0 ∙ simp length-set
 
 returns : tie.Need-returns
 returns c =
     let s = c .before .before .before .before in
-    (c .before .fields .ensures .0, c .before .fields .ensures .1 ∙ rw (add-one (s .args .base), toZ-ofZ {w = w64} (s .fits .kind)))
+    (c .before .figures-into .ensures .0, c .before .figures-into .ensures .1 ∙ rw (add-one (s .args .base), toZ-ofZ {w = w64} (s .fits .kind)))
 
 pub kind-and-fields-spec : {M : Type 1} → statement M
 kind-and-fields-spec =
     tie.close
-    (tie.spec mul-kind slice-set-from-kind add-fields fields-requires same-length returns)
+    (tie.spec mul-kind slice-set-from-kind add-figures-into figures-into-requires same-length returns)

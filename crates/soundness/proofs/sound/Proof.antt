@@ -13,7 +13,7 @@ use Rattle.places.specs.declared.Shape.{Shape}
 use Rattle.places.specs.Place.{get, wordsOf}
 use Rattle.places.specs.ByAccount.{byAccount}
 use Rattle.places.specs.Act.{mostAccounts, mostProducts, shapeOk}
-use Rattle.places.specs.ActLaws.{sound-at, not-sized, count-le}
+use Rattle.places.specs.ActLaws.{sound-at, not-sized, stated-count-le}
 use Rattle.soundness.specs.Sound.{sound, placesOk}
 use Rattle.soundness.proofs.sound.Statement.{statement}
 use Rattle.soundness.proofs.sound.Tie as tie
@@ -30,7 +30,7 @@ module _ (c : tie.After-shape-of) where
   read = sound-at placesOk byAccount W s (c .shape-of .ensures)
 
   few : (s .n ≤ mostAccounts) × (s .p ≤ mostProducts)
-  few = rw (c .shape-of .ensures) (count-le mostAccounts (getD W 0 (pos 0)), count-le mostProducts (getD W 1 (pos 0)))
+  few = rw (c .shape-of .ensures) (stated-count-le mostAccounts (getD W 0 (pos 0)), stated-count-le mostProducts (getD W 1 (pos 0)))
 
 returns : tie.Need-returns
 returns c = sym (not-sized placesOk byAccount (c .before .args .words .now) (λ e. omega arith))

@@ -34,8 +34,8 @@ add-past-gap c =
 past-gap-requires : tie.Need-past-gap-requires
 past-gap-requires c κs = search needs
 
-fields-requires : tie.Need-fields-requires
-fields-requires c κs = search needs
+figures-into-requires : tie.Need-figures-into-requires
+figures-into-requires c κs = search needs
 
 same-length : tie.Need-same-length
 same-length c = search needs
@@ -49,10 +49,10 @@ returns-2 c =
     let from-is = c .before .before .before .past-gap .ensures in
     let e = le-ltb mostFigures (figuresOf (a .p) (getD (a .text .now) (a .at) 0)) (subst (λ (n : ℕ). n ≤ mostFigures) k-is (c .before .before .before .before .if1 .left)) in (
       rw e
-          (c .before .fields .ensures .0 ∙ ap (λ (n : ℕ). figuresAt (a .text .now) n (k .result) .next) from-is
+          (c .before .figures-into .ensures .0 ∙ ap (λ (n : ℕ). figuresAt (a .text .now) n (k .result) .next) from-is
           ∙ ap (λ (n : ℕ). figuresAt (a .text .now) (past (a .text .now) (a .at + 1) (gap n)) n .next) k-is),
       rw e
-          (c .before .fields .ensures .1 ∙ ap (λ (n : ℕ). sets (a .figures .now) 0 (figuresAt (a .text .now) n (k .result) .values)) from-is
+          (c .before .figures-into .ensures .1 ∙ ap (λ (n : ℕ). sets (a .figures .now) 0 (figuresAt (a .text .now) n (k .result) .values)) from-is
           ∙ ap (λ (n : ℕ). sets (a .figures .now) 0 (figuresAt (a .text .now) (past (a .text .now) (a .at + 1) (gap n)) n .values)) k-is),
     )
 
@@ -65,6 +65,6 @@ call-at-spec =
     returns
     add-past-gap
     past-gap-requires
-    fields-requires
+    figures-into-requires
     same-length
     returns-2)

@@ -23,8 +23,8 @@ module _ (s : tie.Start) where
   abbrev g : View
   g = get byAccount (s .args .s) W
 
-accounts : (c : tie.After-both-below) → let s = c .before in c .both-below .result ≡ (isOneOf (s .args .s .n) (s .args .buyer) && isOneOf (s .args .s .n) (s .args .seller))
-accounts c = let s = c .before in c .both-below .ensures ∙ (λ i. isOneOf (s .args .s .n) (arg (s .fits .buyer) i) && isOneOf (s .args .s .n) (arg (s .fits .seller) i))
+accounts : (c : tie.After-both-accounts) → let s = c .before in c .both-accounts .result ≡ (isOneOf (s .args .s .n) (s .args .buyer) && isOneOf (s .args .s .n) (s .args .seller))
+accounts c = let s = c .before in c .both-accounts .ensures ∙ (λ i. isOneOf (s .args .s .n) (arg (s .fits .buyer) i) && isOneOf (s .args .s .n) (arg (s .fits .seller) i))
 
 named : (c : tie.Else1) → let s = c .before .before in (isOneOf (s .args .s .n) (s .args .buyer) && isOneOf (s .args .s .n) (s .args .seller)) ≡ true
 named c = holds (accounts (c .before)) (c .if1 .left)
@@ -46,8 +46,8 @@ module _ (c : tie.After-nat-abs3) where
   product-is : c .nat-abs3 .result ≡ natAbs (s .args .product)
   product-is = c .nat-abs3 .ensures ∙ ap natAbs (arg (s .fits .product))
 
-both-below-requires : tie.Need-both-below-requires
-both-below-requires c κs = search needs
+both-accounts-requires : tie.Need-both-accounts-requires
+both-accounts-requires c κs = search needs
 
 refused-requires : tie.Need-refused-requires
 refused-requires c κs = search needs
@@ -101,7 +101,7 @@ pub trade-in-spec : {M : Type 1} → statement M
 trade-in-spec =
     tie.close
     (tie.spec
-    both-below-requires
+    both-accounts-requires
     refused-requires
     returns
     is-one-of-requires

@@ -1,12 +1,12 @@
--- The law of a thin function that is lent a list (`Lent.antt`), at `account_at`. Assumes nothing.
+-- The law of a thin function that is lent a list (`Lent.antt`), at `account_figures`. Assumes nothing.
 use contract.Running.{givenOf, tables, tablesOf}
 use denote.Triple.Spec.{tripleOf}
 use denote.Triple.Table.{entered, cited}
 use Rattle.dayfile.proofs.Lent.{lent-meets}
 use Rattle.dayfile.proofs.LineFacts.{account-asks, account-fills}
-use Rattle.dayfile.proofs.body.account_at as g
-use Rattle.dayfile.proofs.body.account_at.Symbol as g-def
-use Rattle.dayfile.proofs.body.account_at.Met as g-thm
+use Rattle.dayfile.proofs.body.account_figures as g
+use Rattle.dayfile.proofs.body.account_figures.Symbol as g-def
+use Rattle.dayfile.proofs.body.account_figures.Met as g-thm
 use Rattle.dayfile.proofs.reader.Reader.account as f
 use Rattle.dayfile.proofs.reader.Reader.account.Key as f-key
 use Rattle.dayfile.proofs.reader.Reader.account.Statement as stated
@@ -19,4 +19,4 @@ account-spec 𝓤 H 𝓜 𝓖 𝓡 =
     (tables 𝓤 H 𝓜 𝓡 code.env .C) (tables 𝓤 H 𝓜 𝓡 code.env .Λ) f-key.name code.function (code.unfolded 𝓤 H 𝓜 𝓡)
     (lent-meets account-asks account-fills g-def.name 𝓤 H (𝓖 .A) (givenOf 𝓤 H 𝓜 𝓖) (tablesOf 𝓤 H 𝓜 (tables 𝓤 H 𝓜 𝓡 code.env))
     (cited 𝓤 H (tripleOf 𝓤 H (𝓖 .A) g.signature (g.spec 𝓤 H (𝓖 .A) (𝓜 .mem) (𝓡 .run))) 𝓜 𝓡 code.env
-    g-def.name g-def.routine code.calls-dayfile·body·account-at (g-thm.met 𝓤 H 𝓜 𝓖 𝓡)))
+    g-def.name g-def.routine code.calls-dayfile·body·account-figures (g-thm.met 𝓤 H 𝓜 𝓖 𝓡)))

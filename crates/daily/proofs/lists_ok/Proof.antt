@@ -1,4 +1,4 @@
--- `figures_ok` meets its contract: the products before j passed. Assumes nothing.
+-- `lists_ok` meets its contract: the products before j passed. Assumes nothing.
 use Prim.Native.Nat.{ℕ, _-_, _≤_}
 use native.Mathlib.Omega.{arith}
 use mathlib.Core.Path.{_≡_, refl, sym}
@@ -12,8 +12,8 @@ use Rattle.places.specs.Place.{get}
 use Rattle.whole.specs.Counting.{all}
 use Rattle.whole.specs.CountingLaws.{all-fails, all-more}
 use Rattle.whole.specs.Tests.{holds, fails}
-use Rattle.daily.proofs.figures_ok.Statement.{statement}
-use Rattle.daily.proofs.figures_ok.Tie as tie
+use Rattle.daily.proofs.lists_ok.Statement.{statement}
+use Rattle.daily.proofs.lists_ok.Tie as tie
 
 abbrev ok : List ℤ → Shape → List ℤ → List ℤ → List ℤ → List ℤ → ℕ → Bool
 ok W s prices rates8 rates104 lags = figureOk prices rates8 rates104 lags (get byAccount s W)
@@ -55,8 +55,8 @@ returns-2 c =
     let e : l .loop .j ≡ l .before .args .s .p = omega arith in
     sym (rw e at (l .loop .inv .1))
 
-pub figures-ok-spec : {M : Type 1} → statement M
-figures-ok-spec =
+pub lists-ok-spec : {M : Type 1} → statement M
+lists-ok-spec =
     tie.close
     (tie.spec
     Inv-loop

@@ -1,10 +1,10 @@
--- `between` is safe: both numbers are small. Assumes nothing.
+-- `drawn` is safe: both numbers are small. Assumes nothing.
 use Prim.Native.Nat.{_<_}
 use native.Mathlib.Omega.{arith}
 use Rattle.whole.specs.Whole.{whole, known, facts, by, told}
 use borrow.Author.Needs.{needs}
-use Rattle.histories.proofs.chance.between.Statement.{statement}
-use Rattle.histories.proofs.chance.between.Tie as tie
+use Rattle.histories.proofs.chance.drawn.Statement.{statement}
+use Rattle.histories.proofs.chance.drawn.Tie as tie
 
 returns : tie.Need-returns
 returns c = search needs
@@ -30,7 +30,7 @@ add-result c =
 returns-3 : tie.Need-returns-3
 returns-3 c = search needs
 
-pub between-spec : {M : Type 1} → statement M
-between-spec =
+pub drawn-spec : {M : Type 1} → statement M
+drawn-spec =
     tie.close
     (tie.spec returns returns-2 draw-requires part-requires cast-result add-result returns-3)

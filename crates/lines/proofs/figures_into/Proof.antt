@@ -7,8 +7,8 @@ use Rattle.lines.proofs.FieldLaws.{Filled, filled-more, filled-end}
 use mathlib.Core.Path.{refl, sym, _∙_, ap}
 use native.Mathlib.Omega.{arith}
 use borrow.Author.Needs.{needs}
-use Rattle.lines.proofs.fields.Statement.{statement}
-use Rattle.lines.proofs.fields.Tie as tie
+use Rattle.lines.proofs.figures_into.Statement.{statement}
+use Rattle.lines.proofs.figures_into.Tie as tie
 
 abbrev Inv-loop : tie.InvT-loop
 Inv-loop text from count out₀ base at₀ i₀ left₀ out at i left = Filled text from count out₀ base out at i left
@@ -58,8 +58,8 @@ returns c =
     let e = filled-end (a .text .now) (l .at) (l .left) (omega arith) in
     (sym (l .inv .ends ∙ ap (λ (f : FiguresRead). f .next) e), sym (l .inv .held ∙ ap (λ (f : FiguresRead). sets (l .out) (l .i) (f .values)) e))
 
-pub fields-spec : {M : Type 1} → statement M
-fields-spec =
+pub figures-into-spec : {M : Type 1} → statement M
+figures-into-spec =
     tie.close
     (tie.spec
     Inv-loop

@@ -4,8 +4,8 @@ use mir.Syntax.{w64}
 use mir.Facts.{toZ-ofZ}
 use Rattle.dayfile.proofs.PositionLaws.{holding-is}
 use borrow.Author.Needs.{needs}
-use Rattle.dayfile.proofs.body.position_at.Statement.{statement}
-use Rattle.dayfile.proofs.body.position_at.Tie as tie
+use Rattle.dayfile.proofs.body.holding_at.Statement.{statement}
+use Rattle.dayfile.proofs.body.holding_at.Tie as tie
 
 field-at-requires : tie.Need-field-at-requires
 field-at-requires c κs = search needs
@@ -34,8 +34,8 @@ returns c =
     (λ i. record { account = a-is i; product = j-is i; lots = lots-is i; book = book-is i; next = book .result .next })
     ∙ holding-is (args .text .now) (args .at) (a .result) (j .result) (lots .result) (book .result) (a .ensures) (j .ensures) (lots .ensures) (book .ensures)
 
-pub position-at-spec : {M : Type 1} → statement M
-position-at-spec =
+pub holding-at-spec : {M : Type 1} → statement M
+holding-at-spec =
     tie.close
     (tie.spec
     field-at-requires
