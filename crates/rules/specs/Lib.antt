@@ -1,11 +1,11 @@
 -- The rule book of document 01 on one account and one product. A reader believes the first four; the others are laws.
---   Sizes        the ranges of 01, "Units and sizes"
---   Product      rate, Y, margin and daily difference of one product
---   Account      the margin rules on one account: LG value, deposit, required margin, shortfalls, excesses, limit; gross; a sound record
---   AccountCalls        what a deposit, a withdrawal, a guarantee call, a transfer and a question do to one account
---   ProductLaws  the figures of one product are bounded
---   AccountLaws  the figures of a sound account are bounded
---   AccountCallsLaws    the calls keep a sound account sound and change what they name alone; a withdrawal is taken exactly up to the limit
+--   Sizes             the ranges of 01, "Units and sizes"
+--   Product           rate, Y, margin and daily difference of one product
+--   Account           the margin rules on one account: LG value, deposit, required margin, shortfalls, excesses, limit; gross; a sound record
+--   AccountCalls      what a deposit, a withdrawal, a guarantee call, a transfer and a question do to one account
+--   ProductLaws       the figures of one product are bounded
+--   AccountLaws       the figures of a sound account are bounded
+--   AccountCallsLaws  the calls keep a sound account sound and change what they name alone; a withdrawal is taken exactly up to the limit
 pub mod Sizes
 pub mod Product
 pub mod Account

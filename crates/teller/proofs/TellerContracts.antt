@@ -23,6 +23,7 @@ says-prop rule before x r after = ×-prop (coded-set (ReplyType.the-row .coded) 
 abbrev pub windowDeposits : Contract deposit.ended
 windowDeposits = record { clauses = λ _. deposit.clauses }
 
+-- the rule is opened here, so that a contract which spells it out is compared with it
 pub teller-deposit-says : Says windowDeposits (λ _ a r z. WindowSays tellerDeposit (now (a .0)) (a .1 .0) r (now (z .0)))
 unfolding tellerDeposit
 teller-deposit-says = record { its-clauses = λ _. refl; one-proof = λ _ a r z. says-prop tellerDeposit (now (a .0)) (a .1 .0) r (now (z .0)) }
