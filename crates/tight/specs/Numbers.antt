@@ -17,7 +17,7 @@ use Rattle.acts.specs.Trade.{tradeRule}
 use Rattle.acts.specs.Run.{beginRule, stepRule}
 use Rattle.daily.specs.DailyFigures.{newDue, newMargin}
 use Rattle.closing.specs.Close.{accountPuts, closePuts, closeRule}
-use Rattle.tight.specs.Small.{ledger, account, broker, provider, opening, settled, full, holding, short, brim}
+use Rattle.tight.specs.Small.{ledger, account, broker, provider, opening, settled, full, holding, short, lettered, overdrawn, brim}
 
 -- the rule on the words W is refused with the number k and the figure z, and leaves the words
 abbrev pub Refuses : List ℤ → Rule Reply → ℕ → ℤ → Type 0
@@ -32,9 +32,10 @@ abbrev pub closeAt : Rule Reply
 closeAt = closeRule (pos 1502600 ∷ []) (pos 400 ∷ []) (pos 400 ∷ []) (pos 0 ∷ [])
 
 pub record Refusals : Type 0 where
-  -- no words; a phase past n+1
+  -- no words; a phase past n+1; in a run, a house that is in range at its end and not after its first step
   pub one-empty : Refuses [] (depositRule (pos 0) (pos 1)) 1 (pos 0)
   pub one-phase : Refuses (opening (pos 4)) (depositRule (pos 0) (pos 1)) 1 (pos 0)
+  pub one-house : Refuses (brim (pos 1)) (depositRule (pos 0) (pos 0)) 1 (pos 0)
   -- lists too short
   pub two : Refuses (settled (pos 0) (pos 0)) (closeRule [] [] [] []) 2 (pos 0)
   pub three-above : Refuses (opening (pos 0)) (depositRule (pos 2) (pos 1)) 3 (pos 0)
@@ -60,7 +61,8 @@ pub record Refusals : Type 0 where
   -- the figure is the lowest account: of the second alone, and of both
   pub twelve-second : Refuses (settled (pos 0) (pos 999999999999900)) closeAt 12 (pos 1)
   pub twelve-both : Refuses (settled (pos 999999999999900) (pos 999999999999900)) closeAt 12 (pos 0)
-  pub thirteen : Refuses brim beginRule 13 (pos 0)
+  -- house in range at the end and not after the first step
+  pub thirteen : Refuses (brim (pos 0)) beginRule 13 (pos 0)
 
 pub refusals : Refusals
 unfolding soundBy performBy byAccount accountOk limitOf excessOne excessTwo depositOf lgValue requiredOf deposited withdrawn guaranteed takesAway minZ maxZ floorDiv closePuts accountPuts newDue newMargin rateOf differenceOf
@@ -68,6 +70,7 @@ refusals =
     record {
       one-empty = refl;
       one-phase = refl;
+      one-house = refl;
       two = refl;
       three-above = refl;
       three-below = refl;
@@ -114,9 +117,14 @@ pub record Acceptances : Type 0 where
       (ledger (pos 0) (pos 0) (pos 1502600)
       (account (pos 0) (pos 5) (pos 0) (pos 0) (pos 180312) (pos 300) (pos 30) (pos 45078000)
       (account (pos 1) (pos 6) (pos 0) (pos 0) (pos 180312) (negsuc 299) (negsuc 29) (negsuc 45077999) [])))
-  -- limit and both shortfalls, by R10; no such account
+  -- limit and both shortfalls, by R10
   pub question : ask byAccount short (questionRule (pos 0)) ≡ (record { number = 0; limit = pos 0; first = pos 620000; second = pos 20000 }, short)
   pub question-limit : ask byAccount (opening (pos 0)) (questionRule (pos 0)) ≡ (record { number = 0; limit = pos 50000; first = pos 0; second = pos 0 }, opening (pos 0))
+  -- the LG counts in excess one alone
+  pub question-letter : ask byAccount lettered (questionRule (pos 0)) ≡ (record { number = 0; limit = pos 300000; first = pos 0; second = pos 0 }, lettered)
+  -- required margin is negative, and what is due lessens the shortfall
+  pub question-negative : ask byAccount overdrawn (questionRule (pos 0)) ≡ (record { number = 0; limit = pos 0; first = pos 50000; second = pos 100000 }, overdrawn)
+  -- no such account
   pub question-refused : ask byAccount short (questionRule (pos 2)) ≡ (record { number = 3; limit = pos 0; first = pos 0; second = pos 0 }, short)
 
 pub acceptances : Acceptances
@@ -133,5 +141,7 @@ acceptances =
       close = refl;
       question = refl;
       question-limit = refl;
+      question-letter = refl;
+      question-negative = refl;
       question-refused = refl;
     }

@@ -37,6 +37,14 @@ holding c = ledger (pos 0) (pos 0) (pos 1502500) (broker c (pos 0) (pos 0) (pos 
 abbrev pub short : List ℤ
 short = ledger (pos 0) (pos 0) (pos 1502500) (account (pos 0) (pos 80000) (pos 0) (pos 0) (pos 600000) (negsuc 99999) (pos 0) (pos 0) (provider (pos 0) (pos 0) (pos 0) (pos 0) []))
 
--- 01: house 10^17 with due 0 of -1 in account 0 and 1 in account 1
-abbrev pub brim : List ℤ
-brim = ledger (pos 0) (pos 100000000000000000) (pos 1502500) (broker (pos 0) (negsuc 0) (pos 0) (pos 0) (provider (pos 0) (pos 1) (pos 0) (pos 0) []))
+-- R8 of 01 but for its due 1: F, cash 1,000,000, LG value 990,000, margin 600,000, due 0 -100,000
+abbrev pub lettered : List ℤ
+lettered = ledger (pos 0) (pos 0) (pos 1502500) (account (pos 0) (pos 1000000) (pos 1000000) (pos 1000000) (pos 600000) (negsuc 99999) (pos 0) (pos 0) (provider (pos 0) (pos 0) (pos 0) (pos 0) []))
+
+-- a broker who owes 100,000 and is to receive 50,000: required margin is -50,000
+abbrev pub overdrawn : List ℤ
+overdrawn = ledger (pos 0) (pos 0) (pos 1502500) (broker (negsuc 99999) (pos 50000) (pos 0) (pos 0) (provider (pos 0) (pos 0) (pos 0) (pos 0) []))
+
+-- 01: house 10^17 with due 0 of -1 in account 0 and 1 in account 1; by phase
+abbrev pub brim : ℤ → List ℤ
+brim phase = ledger phase (pos 100000000000000000) (pos 1502500) (broker (pos 0) (negsuc 0) (pos 0) (pos 0) (provider (pos 0) (pos 1) (pos 0) (pos 0) []))
