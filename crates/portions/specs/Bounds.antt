@@ -3,7 +3,7 @@
 use mathlib.Core.List.{List}
 use Prim.Native.Nat.{ℕ, _≤_}
 use lib.ListN.{length}
-use Rattle.portions.specs.Share.{at}
+use Rattle.portions.specs.Share.{ofMember}
 
 abbrev pub most-members : ℕ
 most-members = 64
@@ -17,4 +17,4 @@ most-amount = 5000000000000000
 -- weights that can be shared by
 pub record Weights (weights : List ℕ) : Type 0 where
   pub few : length weights ≤ most-members
-  pub small : (i : ℕ) → at weights i ≤ most-weight
+  pub small : (i : ℕ) → ofMember weights i ≤ most-weight

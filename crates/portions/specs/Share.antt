@@ -17,8 +17,8 @@ unfoldable pub before : (ℕ → ℕ) → ℕ → ℕ → Bool
 before remainder j i = comes (remainder j) j (remainder i) i
 
 -- how many of n members come before i
-unfoldable pub place : ℕ → (ℕ → ℕ) → ℕ → ℕ
-place n remainder i = howMany n (λ j. before remainder j i)
+unfoldable pub aheadOf : ℕ → (ℕ → ℕ) → ℕ → ℕ
+aheadOf n remainder i = howMany n (λ j. before remainder j i)
 
 -- n members, their weights, and the amount to share among them
 module _ (n : ℕ) (weight : ℕ → ℕ) (amount : ℕ) where
@@ -36,22 +36,22 @@ module _ (n : ℕ) (weight : ℕ → ℕ) (amount : ℕ) where
 
   -- i gets one of them if fewer members come before him than there are yen left
   abbrev pub gets-yen : ℕ → Bool
-  gets-yen i = ltb (place n remainderOf i) left
+  gets-yen i = ltb (aheadOf n remainderOf i) left
 
   -- a member's share; where nobody has a weight nobody gets anything
   unfoldable pub shareOf : ℕ → ℕ
   shareOf i = cond (eqb (total n weight) 0) 0 (floorOf i + one-if (gets-yen i))
 
--- the same of a list of weights
-abbrev pub at : List ℕ → ℕ → ℕ
-at l i = getD l i 0
+-- the same of a list of weights: member i's is the i-th
+abbrev pub ofMember : List ℕ → ℕ → ℕ
+ofMember l i = getD l i 0
 
 abbrev pub sumOf : List ℕ → ℕ
-sumOf weights = total (length weights) (at weights)
+sumOf weights = total (length weights) (ofMember weights)
 
 abbrev pub floors : ℕ → List ℕ → List ℤ
-floors amount weights = listed (length weights) (λ i. pos (floorOf (length weights) (at weights) amount i))
+floors amount weights = listed (length weights) (λ i. pos (floorOf (length weights) (ofMember weights) amount i))
 
 -- every member's share
 abbrev pub shares : ℕ → List ℕ → List ℤ
-shares amount weights = listed (length weights) (λ i. pos (shareOf (length weights) (at weights) amount i))
+shares amount weights = listed (length weights) (λ i. pos (shareOf (length weights) (ofMember weights) amount i))

@@ -33,8 +33,8 @@ pub fn sum_of(weights: &[u64]) -> u64
 fn floors(amount: u64, sum: u64, weights: &[u64], remainders: &mut [u64], out: &mut [i64]) -> u64
     requires { ⌜ Weights (now weights) ⌝ ∗ ⌜ amount ≤ most-amount ⌝ }
     requires { ⌜ sum ≡ S.sumOf (now weights) ⌝ ∗ ⌜ 0 < sum ⌝ ∗ ⌜ length (now out) ≡ length (now weights) ⌝ ∗ ⌜ length (now weights) ≤ length (now remainders) ⌝ }
-    ensures { λ r. ⌜ r ≡ S.left (length (now (weights .entry))) (S.at (now (weights .entry))) amount ⌝ }
-    ensures { λ _. ⌜ now (remainders .exit) ≡ filled (length (now (weights .entry))) (S.remainderOf (length (now (weights .entry))) (S.at (now (weights .entry))) amount) (now (remainders .entry)) ⌝ }
+    ensures { λ r. ⌜ r ≡ S.left (length (now (weights .entry))) (S.ofMember (now (weights .entry))) amount ⌝ }
+    ensures { λ _. ⌜ now (remainders .exit) ≡ filled (length (now (weights .entry))) (S.remainderOf (length (now (weights .entry))) (S.ofMember (now (weights .entry))) amount) (now (remainders .entry)) ⌝ }
     ensures { λ _. ⌜ now (out .exit) ≡ S.floors amount (now (weights .entry)) ⌝ }
 {
     let ready = ratio_of(amount, sum);
@@ -58,9 +58,9 @@ fn comes_before(x: u64, j: usize, y: u64, i: usize) -> bool
 }
 
 // How many of n members come before member i.
-fn place_of(remainders: &[u64], n: usize, i: usize) -> u64
+fn ahead_of(remainders: &[u64], n: usize, i: usize) -> u64
     requires { ⌜ n ≤ most-members ⌝ ∗ ⌜ i < n ⌝ ∗ ⌜ n ≤ length (now remainders) ⌝ }
-    ensures { λ r. ⌜ r ≡ S.place n (S.at (now (remainders .entry))) i ⌝ }
+    ensures { λ r. ⌜ r ≡ S.aheadOf n (S.ofMember (now (remainders .entry))) i ⌝ }
 {
     let own = remainders[i];
     let mut ahead: u64 = 0;
@@ -88,10 +88,10 @@ struct Cut {
     other: usize,
 }
 
-// Looks at member i. His place is counted only where he stands between the two.
+// Looks at member i. Who is ahead of him is counted only where he stands between the two.
 fn narrow(yen: u64, remainders: &[u64], n: usize, i: usize, cut: Cut) -> Cut
-    requires { ⌜ n ≤ most-members ⌝ ∗ ⌜ i < n ⌝ ∗ ⌜ n ≤ length (now remainders) ⌝ ∗ ⌜ Seen n (S.at (now remainders)) yen i (cut .last) (cut .owner) (cut .next) (cut .other) ⌝ }
-    ensures { λ r. ⌜ Seen n (S.at (now (remainders .entry))) yen (i + 1) (r .last) (r .owner) (r .next) (r .other) ⌝ }
+    requires { ⌜ n ≤ most-members ⌝ ∗ ⌜ i < n ⌝ ∗ ⌜ n ≤ length (now remainders) ⌝ ∗ ⌜ Seen n (S.ofMember (now remainders)) yen i (cut .last) (cut .owner) (cut .next) (cut .other) ⌝ }
+    ensures { λ r. ⌜ Seen n (S.ofMember (now (remainders .entry))) yen (i + 1) (r .last) (r .owner) (r .next) (r .other) ⌝ }
 {
     let own = remainders[i];
     if !comes_before(cut.last, cut.owner, own, i) {
@@ -100,7 +100,7 @@ fn narrow(yen: u64, remainders: &[u64], n: usize, i: usize, cut: Cut) -> Cut
     if !comes_before(own, i, cut.next, cut.other) {
         return cut;
     }
-    if place_of(remainders, n, i) < yen {
+    if ahead_of(remainders, n, i) < yen {
         Cut {
             last: own,
             owner: i,
@@ -119,8 +119,8 @@ fn narrow(yen: u64, remainders: &[u64], n: usize, i: usize, cut: Cut) -> Cut
 
 // The cut, when all n members are seen. `sum` is above every remainder.
 fn cut_of(yen: u64, sum: u64, remainders: &[u64], n: usize) -> Cut
-    requires { ⌜ n ≤ most-members ⌝ ∗ ⌜ n ≤ length (now remainders) ⌝ ∗ ⌜ ((i : ℕ) → i < n → S.at (now remainders) i < sum) ⌝ }
-    ensures { λ r. ⌜ Cuts n (S.at (now (remainders .entry))) yen (r .last) (r .owner) ⌝ }
+    requires { ⌜ n ≤ most-members ⌝ ∗ ⌜ n ≤ length (now remainders) ⌝ ∗ ⌜ ((i : ℕ) → i < n → S.ofMember (now remainders) i < sum) ⌝ }
+    ensures { λ r. ⌜ Cuts n (S.ofMember (now (remainders .entry))) yen (r .last) (r .owner) ⌝ }
 {
     let mut cut = Cut {
         last: sum,
@@ -139,7 +139,7 @@ fn cut_of(yen: u64, sum: u64, remainders: &[u64], n: usize) -> Cut
 // Gives a yen to each member whom the last owner does not come before.
 fn hand_out(last: u64, owner: usize, remainders: &[u64], out: &mut [i64])
     requires { ⌜ length (now out) ≤ length (now remainders) ⌝ ∗ ⌜ Each most-amount (now out) ⌝ }
-    ensures { λ _. ⌜ now (out .exit) ≡ listed (length (now (out .entry))) (λ i. getD (now (out .entry)) i (pos 0) +ℤ pos (one-if (not (S.comes last owner (S.at (now (remainders .entry)) i) i)))) ⌝ }
+    ensures { λ _. ⌜ now (out .exit) ≡ listed (length (now (out .entry))) (λ i. getD (now (out .entry)) i (pos 0) +ℤ pos (one-if (not (S.comes last owner (S.ofMember (now (remainders .entry)) i) i)))) ⌝ }
 {
     let mut i: usize = 0;
     while i < out.len() {

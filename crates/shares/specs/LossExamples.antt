@@ -6,24 +6,24 @@ use Prim.Native.Nat.{ℕ, _+_, _<_}
 use native.Mathlib.Omega.{arith}
 use lib.IntN.{ℤ, pos, negsuc}
 use Rattle.whole.specs.Counting.{listed}
-use Rattle.portions.specs.Share.{before, place, floorOf, remainderOf, left, shareOf, at, shares}
+use Rattle.portions.specs.Share.{before, aheadOf, floorOf, remainderOf, left, shareOf, ofMember, shares}
 use Rattle.portions.specs.PortionTheorems.{shares-add, equal-weights}
 use Rattle.shares.specs.Loss.{refusal, weightOf, negativeOf, weight, negative, layer, layerShares, mostTwo, remains, reply, lossShared}
 
 -- R11: weights 5, 7, 9 million, layer 10
 pub r11 : shares 10 (5000000 ∷ 7000000 ∷ 9000000 ∷ []) ≡ pos 3 ∷ pos 3 ∷ pos 4 ∷ []
-unfolding listed before place floorOf remainderOf left shareOf
+unfolding listed before aheadOf floorOf remainderOf left shareOf
 r11 = refl
 
 -- and whatever the three equal weights are
 pub r12-any : (w : ℕ) → 0 < w → shares 10 (w ∷ w ∷ w ∷ []) ≡ pos 4 ∷ pos 3 ∷ pos 3 ∷ []
 unfolding listed
 r12-any w h =
-    let share = shareOf 3 (at (w ∷ w ∷ w ∷ [])) 10 in
-    let adds = shares-add 3 (at (w ∷ w ∷ w ∷ [])) 10 (omega arith) in
-    let a = equal-weights 3 (at (w ∷ w ∷ w ∷ [])) 10 0 1 (omega arith) (omega arith) refl in
-    let b = equal-weights 3 (at (w ∷ w ∷ w ∷ [])) 10 1 2 (omega arith) (omega arith) refl in
-    let c = equal-weights 3 (at (w ∷ w ∷ w ∷ [])) 10 0 2 (omega arith) (omega arith) refl in
+    let share = shareOf 3 (ofMember (w ∷ w ∷ w ∷ [])) 10 in
+    let adds = shares-add 3 (ofMember (w ∷ w ∷ w ∷ [])) 10 (omega arith) in
+    let a = equal-weights 3 (ofMember (w ∷ w ∷ w ∷ [])) 10 0 1 (omega arith) (omega arith) refl in
+    let b = equal-weights 3 (ofMember (w ∷ w ∷ w ∷ [])) 10 1 2 (omega arith) (omega arith) refl in
+    let c = equal-weights 3 (ofMember (w ∷ w ∷ w ∷ [])) 10 0 2 (omega arith) (omega arith) refl in
     let e : (share 0 ≡ 4) × (share 1 ≡ 3) × (share 2 ≡ 3) = by-cases (share 0) (share 1) (share 2) adds a b c in
     rw (e .0, e .1, e .2) refl
   where
@@ -46,7 +46,7 @@ blank = pos 7 ∷ pos 7 ∷ pos 7 ∷ []
 
 -- a loss of 12,000,000: 5,000,000 to each survivor, then 900,000 to the first, 1,100,000 uncovered
 pub worked : lossShared (pos 12000000) deposits differences marks blank blank ≡ (reply 0 (pos 1100000), pos 5000000 ∷ pos 5000000 ∷ pos 0 ∷ [], pos 900000 ∷ pos 0 ∷ pos 0 ∷ [])
-unfolding listed before place floorOf remainderOf left shareOf refusal weightOf negativeOf weight negative layer layerShares mostTwo remains lossShared
+unfolding listed before aheadOf floorOf remainderOf left shareOf refusal weightOf negativeOf weight negative layer layerShares mostTwo remains lossShared
 worked = refl
 
 -- a loss below 0 is refused, and nothing is written

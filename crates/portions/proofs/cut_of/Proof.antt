@@ -2,13 +2,13 @@
 use mathlib.Core.Path.{_≡_}
 use Prim.Native.Nat.{_-_, _≤_, zero-le}
 use native.Mathlib.Omega.{arith}
-use Rattle.portions.specs.Share.{at}
+use Rattle.portions.specs.Share.{ofMember}
 use Rattle.portions.specs.Cut.{Seen, seen-none, seen-all}
 use Rattle.portions.proofs.cut_of.Statement.{statement}
 use Rattle.portions.proofs.cut_of.Tie as tie
 
 abbrev Inv-loop : tie.InvT-loop
-Inv-loop yen sum remainders n cut₀ i₀ cut i = (i ≤ n) × Seen n (at remainders) yen i (cut .last) (cut .owner) (cut .next) (cut .other)
+Inv-loop yen sum remainders n cut₀ i₀ cut i = (i ≤ n) × Seen n (ofMember remainders) yen i (cut .last) (cut .owner) (cut .next) (cut .other)
 
 abbrev μ-loop : tie.MeasureT-loop
 μ-loop yen sum remainders n cut₀ i₀ cut i = n - i

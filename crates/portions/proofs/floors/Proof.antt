@@ -9,7 +9,7 @@ use Rattle.whole.specs.Counting.{total}
 use Rattle.whole.specs.CountingLaws.{total-step, total-most, total-one}
 use Rattle.whole.specs.Listed.{filled, filled-none, filled-step, filled-all}
 use Rattle.portions.specs.ShareLaws.{floor-most, floors-le}
-use Rattle.portions.specs.Share.{at, before, floorOf, remainderOf, left}
+use Rattle.portions.specs.Share.{ofMember, before, floorOf, remainderOf, left}
 use Rattle.portions.specs.Bounds.{most-amount, most-weight}
 use mir.Syntax.{w64}
 use mir.Val.{toZ}
@@ -20,7 +20,7 @@ use Rattle.portions.proofs.floors.Tie as tie
 abbrev Inv-loop : tie.InvT-loop
 Inv-loop amount sum weights remainders₀ out₀ ready given₀ i₀ remainders out given i =
     let n = length weights in
-    let w = at weights in
+    let w = ofMember weights in
     (i ≤ n) × (length out ≡ n) × (remainders ≡ filled i (remainderOf n w amount) remainders₀) × (out ≡ filled i (λ k. pos (floorOf n w amount k)) out₀) × (given ≡ total i (floorOf n w amount)) × (length remainders ≡ length remainders₀)
 
 abbrev μ-loop : tie.MeasureT-loop
@@ -33,7 +33,7 @@ loop-holds : tie.Need-loop-holds Inv-loop μ-loop
 loop-holds c =
     let a = c .before .before .before .args in
     let n = length (a .weights .now) in
-    let w = at (a .weights .now) in
+    let w = ofMember (a .weights .now) in
     (zero-le, c .before .before .before .pre .1 .1 .1 .1 .0, filled-none (remainderOf n w (a .amount)) (a .remainders .now), filled-none (λ k. pos (floorOf n w (a .amount) k)) (a .out .now), refl, refl)
 
 mul-part-of : tie.Need-mul-part-of Inv-loop μ-loop
@@ -47,7 +47,7 @@ part-of-requires c κs =
     let s = c .before .before .before .before .before .before in
     let ws = s .args .weights .now in
     let l = c .before .before .loop in
-    (c .before .before .before .ratio-of .ensures, omega (arith, s .pre .1 .1 .0, s .pre .0 .few, total-most most-weight (length ws) (at ws) (λ k b. s .pre .0 .small k), total-one (length ws) (at ws) (l .i) (omega arith)))
+    (c .before .before .before .ratio-of .ensures, omega (arith, s .pre .1 .1 .0, s .pre .0 .few, total-most most-weight (length ws) (ofMember ws) (λ k b. s .pre .0 .small k), total-one (length ws) (ofMember ws) (l .i) (omega arith)))
 
 mul-remainders : tie.Need-mul-remainders Inv-loop μ-loop
 mul-remainders c = search needs
@@ -60,15 +60,15 @@ got : (c : tie.After-part-of Inv-loop μ-loop) →
     let a = c .before .before .before .before .before .before .before .args in
     let ws = a .weights .now in
     let i = c .before .before .before .loop .i in
-    (c .part-of .result .quotient ≡ floorOf (length ws) (at ws) (a .amount) i) × (c .part-of .result .remainder ≡ remainderOf (length ws) (at ws) (a .amount) i) × (c .part-of .result .quotient ≤ a .amount)
+    (c .part-of .result .quotient ≡ floorOf (length ws) (ofMember ws) (a .amount) i) × (c .part-of .result .remainder ≡ remainderOf (length ws) (ofMember ws) (a .amount) i) × (c .part-of .result .quotient ≤ a .amount)
 unfolding floorOf remainderOf
 got c =
     let s = c .before .before .before .before .before .before .before in
     let ws = s .args .weights .now in
     let w = s .pre .1 .1 .0 in
     let i = c .before .before .before .loop .i in
-    let q : c .part-of .result .quotient ≡ floorOf (length ws) (at ws) (s .args .amount) i = rw w at (c .part-of .ensures .0) in
-    (q, rw w at (c .part-of .ensures .1), omega (arith, q, floor-most (length ws) (at ws) (s .args .amount) (rw w at (s .pre .1 .1 .1 .0)) i (omega arith)))
+    let q : c .part-of .result .quotient ≡ floorOf (length ws) (ofMember ws) (s .args .amount) i = rw w at (c .part-of .ensures .0) in
+    (q, rw w at (c .part-of .ensures .1), omega (arith, q, floor-most (length ws) (ofMember ws) (s .args .amount) (rw w at (s .pre .1 .1 .1 .0)) i (omega arith)))
 
 cast-out : tie.Need-cast-out Inv-loop μ-loop
 cast-out c = let g = got (c .before) in omega arith
@@ -85,8 +85,8 @@ add-given c =
     let ws = s .args .weights .now in
     let l = c .before .before .before .before .before .loop in
     let g = got (c .before .before) in
-    let h : 0 < total (length ws) (at ws) = rw (s .pre .1 .1 .0) at (s .pre .1 .1 .1 .0) in
-    omega (arith, s .pre .0 .few, total-most most-amount (l .i) (floorOf (length ws) (at ws) (s .args .amount)) (λ k b. omega (arith, s .pre .1 .0, floor-most (length ws) (at ws) (s .args .amount) h k (omega arith))))
+    let h : 0 < total (length ws) (ofMember ws) = rw (s .pre .1 .1 .0) at (s .pre .1 .1 .1 .0) in
+    omega (arith, s .pre .0 .few, total-most most-amount (l .i) (floorOf (length ws) (ofMember ws) (s .args .amount)) (λ k b. omega (arith, s .pre .1 .0, floor-most (length ws) (ofMember ws) (s .args .amount) h k (omega arith))))
 
 add-i : tie.Need-add-i Inv-loop μ-loop
 add-i c = omega arith
@@ -99,7 +99,7 @@ loop-again c =
     let a = c .before .before .before .before .before .before .before .before .before .args in
     let p = c .before .before .before .before .before .before .before .before .before .pre in
     let n = length (a .weights .now) in
-    let w = at (a .weights .now) in
+    let w = ofMember (a .weights .now) in
     let l = c .before .before .before .before .before .loop in
     let r = c .before .before .part-of .result in
     let g = got (c .before .before) in (
@@ -118,7 +118,7 @@ sub-result c =
     let l = c .before .loop in
     let n : l .i ≡ length ws = omega arith in
     let e = rw n at (l .inv .4) in
-    omega (arith, e, floors-le (length ws) (at ws) (s .args .amount) (rw (s .pre .1 .1 .0) at (s .pre .1 .1 .1 .0)))
+    omega (arith, e, floors-le (length ws) (ofMember ws) (s .args .amount) (rw (s .pre .1 .1 .0) at (s .pre .1 .1 .1 .0)))
 
 same-length : tie.Need-same-length Inv-loop μ-loop
 same-length c = omega arith
@@ -133,7 +133,7 @@ returns c =
     let ws = s .args .weights .now in
     let l = c .before .loop in
     let n : l .i ≡ length ws = omega arith in
-    (ap (λ x. s .args .amount - x) (rw n at (l .inv .4)), (rw n at (l .inv .2), rw n at (l .inv .3) ∙ filled-all (length ws) (λ i. pos (floorOf (length ws) (at ws) (s .args .amount) i)) (s .args .out .now) (omega arith)))
+    (ap (λ x. s .args .amount - x) (rw n at (l .inv .4)), (rw n at (l .inv .2), rw n at (l .inv .3) ∙ filled-all (length ws) (λ i. pos (floorOf (length ws) (ofMember ws) (s .args .amount) i)) (s .args .out .now) (omega arith)))
 
 pub floors-spec : {M : Type 1} → statement M
 floors-spec =

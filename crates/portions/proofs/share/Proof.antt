@@ -7,7 +7,7 @@ use lib.IntN.{pos}
 use lib.ListN.{length}
 use Rattle.whole.specs.Counting.{listed}
 use Rattle.whole.specs.Listed.{listed-same}
-use Rattle.portions.specs.Share.{at, shareOf}
+use Rattle.portions.specs.Share.{ofMember, shareOf}
 use Rattle.portions.specs.ShareLaws.{share-none, share-nothing}
 use Rattle.portions.proofs.share.Statement.{statement}
 use Rattle.portions.proofs.share.Tie as tie
@@ -26,7 +26,7 @@ returns : tie.Need-returns
 returns c =
     let s = c .before .before .before .before .before in
     let ws = s .args .weights .now in
-    c .before .clear .ensures ∙ rw (s .pre .1 .1 .0) (zeros (length ws) (at ws) (s .args .amount) (share-nothing (length ws) (at ws) (s .args .amount) (c .before .before .before .if1 .taken)))
+    c .before .clear .ensures ∙ rw (s .pre .1 .1 .0) (zeros (length ws) (ofMember ws) (s .args .amount) (share-nothing (length ws) (ofMember ws) (s .args .amount) (c .before .before .before .if1 .taken)))
 
 clear-requires-2 : tie.Need-clear-requires-2
 clear-requires-2 c κs = search needs
@@ -39,7 +39,7 @@ returns-2 c =
     let d = c .before .before .before in
     let s = d .before .before .before in
     let ws = s .args .weights .now in
-    c .before .clear2 .ensures ∙ rw (s .pre .1 .1 .0) (zeros (length ws) (at ws) (s .args .amount) (share-none (length ws) (at ws) (s .args .amount) (sym (s .pre .1 .1 .1) ∙ d .if2 .taken)))
+    c .before .clear2 .ensures ∙ rw (s .pre .1 .1 .0) (zeros (length ws) (ofMember ws) (s .args .amount) (share-none (length ws) (ofMember ws) (s .args .amount) (sym (s .pre .1 .1 .1) ∙ d .if2 .taken)))
 
 slice-aggregate-share-with : tie.Need-slice-aggregate-share-with
 slice-aggregate-share-with c = search needs

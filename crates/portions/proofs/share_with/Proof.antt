@@ -10,9 +10,9 @@ use lib.ListN.{length, getD}
 use Rattle.whole.specs.Counting.{total, one-if, listed}
 use Rattle.whole.specs.Listed.{each-of, length-listed, getD-listed, listed-same, filled, length-filled, getD-filled}
 use Rattle.whole.specs.Reps.{Each}
-use Rattle.portions.specs.Share.{at, comes, floorOf, remainderOf, left, shareOf}
+use Rattle.portions.specs.Share.{ofMember, comes, floorOf, remainderOf, left, shareOf}
 use Rattle.portions.specs.Bounds.{most-amount}
-use Rattle.portions.specs.Order.{place-same}
+use Rattle.portions.specs.Order.{ahead-same}
 use Rattle.portions.specs.Cut.{Cuts}
 use Rattle.portions.specs.ShareLaws.{floor-most, rem-lt, share-is}
 use Rattle.portions.proofs.share_with.Statement.{statement}
@@ -30,27 +30,27 @@ module _ (n : ℕ) (w : ℕ → ℕ) (amount : ℕ) (some : 0 < total n w) where
       word k b = rw (getD-listed n (λ i. pos (floorOf n w amount i)) (pos 0) k b) (omega (arith, floor-most n w amount some k b))
 
   module _ (before after : List ℕ) (r : after ≡ filled n (remainderOf n w amount) before) where
-    remainder : (i : ℕ) → i < n → at after i ≡ remainderOf n w amount i
+    remainder : (i : ℕ) → i < n → ofMember after i ≡ remainderOf n w amount i
     remainder i b = rw r (getD-filled n (remainderOf n w amount) before 0 i b)
 
-    below-sum : (i : ℕ) → i < n → at after i < total n w
+    below-sum : (i : ℕ) → i < n → ofMember after i < total n w
     below-sum i b = rw (remainder i b) (rem-lt n w amount some i)
 
     -- with the yen that are left the floors are the shares
-    shared : (yen x j : ℕ) → yen ≡ left n w amount → Cuts n (at after) yen x j → (one two : List ℤ) → one ≡ floors →
-        two ≡ listed (length one) (λ i. getD one i (pos 0) +ℤ pos (one-if (not (comes x j (at after i) i)))) →
+    shared : (yen x j : ℕ) → yen ≡ left n w amount → Cuts n (ofMember after) yen x j → (one two : List ℤ) → one ≡ floors →
+        two ≡ listed (length one) (λ i. getD one i (pos 0) +ℤ pos (one-if (not (comes x j (ofMember after i) i)))) →
         two ≡ listed n (λ i. pos (shareOf n w amount i))
     shared yen x j y c one two f h = h ∙ rw (f, length-listed n (λ i. pos (floorOf n w amount i))) (listed-same n _ _ word)
       where
-        word : (i : ℕ) → i < n → getD floors i (pos 0) +ℤ pos (one-if (not (comes x j (at after i) i))) ≡ pos (shareOf n w amount i)
+        word : (i : ℕ) → i < n → getD floors i (pos 0) +ℤ pos (one-if (not (comes x j (ofMember after i) i))) ≡ pos (shareOf n w amount i)
         word i b =
-            rw (getD-listed n (λ k. pos (floorOf n w amount k)) (pos 0) i b, ← c .parts i b, place-same n (at after) (remainderOf n w amount) remainder i b, y, share-is n w amount some i) refl
+            rw (getD-listed n (λ k. pos (floorOf n w amount k)) (pos 0) i b, ← c .parts i b, ahead-same n (ofMember after) (remainderOf n w amount) remainder i b, y, share-is n w amount some i) refl
 
 floors-requires : tie.Need-floors-requires
 floors-requires c κs = search needs
 
 -- somebody has a weight
-some-weight : (c : tie.Start) → let ws = c .args .weights .now in 0 < total (length ws) (at ws)
+some-weight : (c : tie.Start) → let ws = c .args .weights .now in 0 < total (length ws) (ofMember ws)
 some-weight c = rw (c .pre .1 .1 .1 .0) at (c .pre .1 .1 .1 .1 .0)
 
 cut-of-requires : tie.Need-cut-of-requires
@@ -61,8 +61,8 @@ cut-of-requires c κs =
     let r = d .floors .ensures .1 .0 in (
       s .pre .0 .few,
       (
-        omega (arith, ap length r ∙ length-filled (length ws) (remainderOf (length ws) (at ws) (s .args .amount)) (s .args .remainders .now) (s .pre .1 .1 .1 .1 .1)),
-        rw (s .pre .1 .1 .1 .0) (below-sum (length ws) (at ws) (s .args .amount) (some-weight s) _ _ r),
+        omega (arith, ap length r ∙ length-filled (length ws) (remainderOf (length ws) (ofMember ws) (s .args .amount)) (s .args .remainders .now) (s .pre .1 .1 .1 .1 .1)),
+        rw (s .pre .1 .1 .1 .0) (below-sum (length ws) (ofMember ws) (s .args .amount) (some-weight s) _ _ r),
       ),
     )
 
@@ -73,7 +73,7 @@ hand-out-requires c κs =
     let ws = s .args .weights .now in
     let f = d .floors .ensures .1 .1 in
     let r = d .floors .ensures .1 .0 in
-    (omega (arith, s .pre .1 .1 .1 .1 .1, ap length f ∙ length-listed (length ws) (λ i. pos (floorOf (length ws) (at ws) (s .args .amount) i)), ap length r ∙ length-filled (length ws) (remainderOf (length ws) (at ws) (s .args .amount)) (s .args .remainders .now) (s .pre .1 .1 .1 .1 .1)), rw f (within (length ws) (at ws) (s .args .amount) (some-weight s) (s .pre .1 .0)))
+    (omega (arith, s .pre .1 .1 .1 .1 .1, ap length f ∙ length-listed (length ws) (λ i. pos (floorOf (length ws) (ofMember ws) (s .args .amount) i)), ap length r ∙ length-filled (length ws) (remainderOf (length ws) (ofMember ws) (s .args .amount)) (s .args .remainders .now) (s .pre .1 .1 .1 .1 .1)), rw f (within (length ws) (ofMember ws) (s .args .amount) (some-weight s) (s .pre .1 .0)))
 
 same-length : tie.Need-same-length
 same-length c = search needs
@@ -88,7 +88,7 @@ returns c =
     let s = d .before .before .before .before .before in
     let ws = s .args .weights .now in
     let e = d .floors .ensures in
-    shared (length ws) (at ws) (s .args .amount) (some-weight s) _ _ (e .1 .0) _ _ _ (e .0) (k .cut-of .ensures) _ _ (e .1 .1) (c .before .hand-out .ensures)
+    shared (length ws) (ofMember ws) (s .args .amount) (some-weight s) _ _ (e .1 .0) _ _ _ (e .0) (k .cut-of .ensures) _ _ (e .1 .1) (c .before .hand-out .ensures)
 
 pub share-with-spec : {M : Type 1} → statement M
 share-with-spec =

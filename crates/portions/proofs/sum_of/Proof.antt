@@ -6,13 +6,13 @@ use borrow.Author.Needs.{needs}
 use lib.ListN.{length}
 use Rattle.whole.specs.Counting.{total}
 use Rattle.whole.specs.CountingLaws.{total-step, total-most}
-use Rattle.portions.specs.Share.{at, before}
+use Rattle.portions.specs.Share.{ofMember, before}
 use Rattle.portions.specs.Bounds.{most-weight}
 use Rattle.portions.proofs.sum_of.Statement.{statement}
 use Rattle.portions.proofs.sum_of.Tie as tie
 
 abbrev Inv-loop : tie.InvT-loop
-Inv-loop weights sum₀ i₀ sum i = (i ≤ length weights) × (sum ≡ total i (at weights))
+Inv-loop weights sum₀ i₀ sum i = (i ≤ length weights) × (sum ≡ total i (ofMember weights))
 
 abbrev μ-loop : tie.MeasureT-loop
 μ-loop weights sum₀ i₀ sum i = length weights - i
@@ -31,7 +31,7 @@ add-sum c =
     let w = c .before .before .before .args .weights .now in
     let p = c .before .before .before .pre in
     let l = c .before .before .loop in
-    omega (arith, total-most most-weight (l .i) (at w) (λ k b. p .small k), p .small (l .i))
+    omega (arith, total-most most-weight (l .i) (ofMember w) (λ k b. p .small k), p .small (l .i))
 
 add-i : tie.Need-add-i Inv-loop μ-loop
 add-i c = omega arith
@@ -42,7 +42,7 @@ loop-less c = omega arith
 loop-again : tie.Need-loop-again Inv-loop μ-loop
 loop-again c =
     let l = c .before .before .loop in
-    (omega arith, total-step (l .i) (at (c .before .before .before .args .weights .now)) (l .sum) _ (l .inv .1) refl)
+    (omega arith, total-step (l .i) (ofMember (c .before .before .before .args .weights .now)) (l .sum) _ (l .inv .1) refl)
 
 returns : tie.Need-returns Inv-loop μ-loop
 returns c =

@@ -9,7 +9,7 @@ use Rattle.whole.specs.Reps.{Each}
 use Rattle.whole.specs.Counting.{total, listed}
 use Rattle.whole.specs.CountingLaws.{total-same}
 use Rattle.whole.specs.Listed.{length-listed, getD-listed, listed-same, listed-most}
-use Rattle.portions.specs.Share.{at, shareOf, shares}
+use Rattle.portions.specs.Share.{ofMember, shareOf, shares}
 use Rattle.portions.specs.ShareLaws.{share-same}
 use Rattle.portions.specs.Bounds.{Weights, most-members, most-weight}
 use Rattle.shares.specs.Loss.{weight, layer, bears, layerShares, most-figure}
@@ -32,11 +32,11 @@ module _ (marks figures : List ℤ) (ws : List ℕ) (e : ws ≡ listed (length f
         small = λ i. rw e (listed-most n (weight marks figures) most-weight (λ k. omega (arith, weight-most most-figure marks figures b k)) i);
       }
 
-  each-weight : (i : ℕ) → i < n → at ws i ≡ weight marks figures i
+  each-weight : (i : ℕ) → i < n → ofMember ws i ≡ weight marks figures i
   each-weight i b = rw e (getD-listed n (weight marks figures) 0 i b)
 
-  total-is : total (length ws) (at ws) ≡ total n (weight marks figures)
-  total-is = rw sized (total-same n (at ws) (weight marks figures) each-weight)
+  total-is : total (length ws) (ofMember ws) ≡ total n (weight marks figures)
+  total-is = rw sized (total-same n (ofMember ws) (weight marks figures) each-weight)
 
   shares-are : (most amount : ℕ) (out : List ℤ) → amount ≡ layer most marks figures → out ≡ shares amount ws → out ≡ layerShares most marks figures
   unfolding layerShares
@@ -44,9 +44,9 @@ module _ (marks figures : List ℤ) (ws : List ℕ) (e : ws ≡ listed (length f
       o
       ∙ rw (sized, a)
       (listed-same n
-      (λ i. pos (shareOf n (at ws) (layer most marks figures) i))
+      (λ i. pos (shareOf n (ofMember ws) (layer most marks figures) i))
       (λ i. pos (bears most marks figures i))
-      (λ i b. ap pos (share-same n (at ws) (weight marks figures) (layer most marks figures) each-weight i b)))
+      (λ i b. ap pos (share-same n (ofMember ws) (weight marks figures) (layer most marks figures) each-weight i b)))
 
 weigh-requires : tie.Need-weigh-requires
 weigh-requires c κs = search needs

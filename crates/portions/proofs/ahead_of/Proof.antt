@@ -1,4 +1,4 @@
--- `place_of` meets its contract: of the members passed, as many come before i as were counted. Assumes nothing.
+-- `ahead_of` meets its contract: of the members passed, as many come before i as were counted. Assumes nothing.
 use mathlib.Core.Path.{_≡_, refl}
 use Prim.Native.Nat.{_-_, _≤_, zero-le}
 use native.Mathlib.Omega.{arith}
@@ -7,12 +7,12 @@ use mir.Val.{boolByte}
 use borrow.Author.Needs.{needs}
 use Rattle.whole.specs.Counting.{howMany, one-if}
 use Rattle.whole.specs.CountingLaws.{total-step, one-if-most}
-use Rattle.portions.specs.Share.{at, before, place}
-use Rattle.portions.proofs.place_of.Statement.{statement}
-use Rattle.portions.proofs.place_of.Tie as tie
+use Rattle.portions.specs.Share.{ofMember, before, aheadOf}
+use Rattle.portions.proofs.ahead_of.Statement.{statement}
+use Rattle.portions.proofs.ahead_of.Tie as tie
 
 abbrev Inv-loop : tie.InvT-loop
-Inv-loop remainders n i own ahead₀ j₀ ahead j = (j ≤ n) × (own ≡ at remainders i) × (ahead ≤ j) × (ahead ≡ howMany j (λ k. before (at remainders) k i))
+Inv-loop remainders n i own ahead₀ j₀ ahead j = (j ≤ n) × (own ≡ ofMember remainders i) × (ahead ≤ j) × (ahead ≡ howMany j (λ k. before (ofMember remainders) k i))
 
 abbrev μ-loop : tie.MeasureT-loop
 μ-loop remainders n i own ahead₀ j₀ ahead j = n - j
@@ -41,7 +41,7 @@ cast-ahead c = tt
 -- what the turn counts
 counted : (c : tie.After-comes-before Inv-loop μ-loop) →
     let a = c .before .before .before .before .before .before .args in
-    boolByte (c .comes-before .result) ≡ one-if (before (at (a .remainders .now)) (c .before .before .before .loop .j) (a .i))
+    boolByte (c .comes-before .result) ≡ one-if (before (ofMember (a .remainders .now)) (c .before .before .before .loop .j) (a .i))
 unfolding before
 counted c = rw (← c .comes-before .ensures) (is-one-if (c .comes-before .result))
   where
@@ -52,7 +52,7 @@ counted c = rw (← c .comes-before .ensures) (is-one-if (c .comes-before .resul
 add-ahead : tie.Need-add-ahead Inv-loop μ-loop
 add-ahead c =
     let a = c .before .before .before .before .before .before .args in
-    omega (arith, counted c, one-if-most (before (at (a .remainders .now)) (c .before .before .before .loop .j) (a .i)))
+    omega (arith, counted c, one-if-most (before (ofMember (a .remainders .now)) (c .before .before .before .loop .j) (a .i)))
 
 add-j : tie.Need-add-j Inv-loop μ-loop
 add-j c = omega arith
@@ -65,17 +65,17 @@ loop-again c =
     let a = c .before .before .before .before .before .before .args in
     let l = c .before .before .before .loop in
     let e = counted c in
-    (omega arith, refl, omega (arith, e, one-if-most (before (at (a .remainders .now)) (l .j) (a .i))), total-step (l .j) (λ k. one-if (before (at (a .remainders .now)) k (a .i))) (l .ahead) _ (l .inv .3) e)
+    (omega arith, refl, omega (arith, e, one-if-most (before (ofMember (a .remainders .now)) (l .j) (a .i))), total-step (l .j) (λ k. one-if (before (ofMember (a .remainders .now)) k (a .i))) (l .ahead) _ (l .inv .3) e)
 
 returns : tie.Need-returns Inv-loop μ-loop
-unfolding place
+unfolding aheadOf
 returns c =
     let l = c .before .loop in
     let n : l .j ≡ c .before .before .before .before .args .n = omega arith in
     rw n at (l .inv .3)
 
-pub place-of-spec : {M : Type 1} → statement M
-place-of-spec =
+pub ahead-of-spec : {M : Type 1} → statement M
+ahead-of-spec =
     tie.close
     (tie.spec
     Inv-loop
