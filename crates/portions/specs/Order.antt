@@ -1,5 +1,5 @@
--- The order of the remainders: of two members one comes before the other, no two have as many ahead of them, and so l members have
--- fewer than l ahead of them. Assumes nothing.
+-- The order of the remainders: of two members one comes before the other, no two have as many ahead of them, and so of n members
+-- exactly l have fewer than l ahead of them, for each l up to n. Assumes nothing.
 use mathlib.Core.Path.{_≡_, refl, sym, _∙_}
 use mathlib.Core.Bool.{Bool, true, false, _&&_, _||_}
 use mathlib.Core.Logic.{_⊎_, inl, inr, ⊎-elim}
@@ -77,7 +77,7 @@ three-ways i t = go (ltb i t) (ltb t i) refl refl
     go false true e f = inr (inl (ltb-true t i f))
     go false false e f = inr (inr (omega (arith, ltb-false i t e, ltb-false t i f)))
 
--- ---- how many are ahead: l members have fewer than l ahead of them
+-- ---- how many are ahead: of n members exactly l have fewer than l ahead of them
 
 module _ (n : ℕ) (r : ℕ → ℕ) where
   pub ahead-lt : (i j : ℕ) → i < n → before r i j ≡ true → aheadOf n r i < aheadOf n r j
@@ -139,7 +139,7 @@ module _ (n : ℕ) (r : ℕ → ℕ) where
       higher : t < i → aheadOf n r i ≤ aheadOf n r t
       higher l = ⊎-elim (λ k. clash k h) (λ k. omega (arith, ahead-lt n r i t c k)) (one-first r t i l)
 
--- who is ahead says only what the figures of the n members say
+-- how many are ahead depends on the remainders of the n members alone
 pub ahead-same : (n : ℕ) (r s : ℕ → ℕ) → ((i : ℕ) → i < n → r i ≡ s i) → (i : ℕ) → i < n → aheadOf n r i ≡ aheadOf n s i
 unfolding aheadOf before
 ahead-same n r s h i b = total-same n (λ j. one-if (before r j i)) (λ j. one-if (before s j i)) (λ j c. rw (h i b, h j c) refl)

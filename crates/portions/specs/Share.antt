@@ -42,10 +42,11 @@ module _ (n : ℕ) (weight : ℕ → ℕ) (amount : ℕ) where
   unfoldable pub shareOf : ℕ → ℕ
   shareOf i = cond (eqb (total n weight) 0) 0 (floorOf i + one-if (gets-yen i))
 
--- the same of a list of weights: member i's is the i-th
+-- member i's figure in a list
 abbrev pub ofMember : List ℕ → ℕ → ℕ
 ofMember l i = getD l i 0
 
+-- the same of a list of weights
 abbrev pub sumOf : List ℕ → ℕ
 sumOf weights = total (length weights) (ofMember weights)
 

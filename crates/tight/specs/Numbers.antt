@@ -32,7 +32,7 @@ abbrev pub closeAt : Rule Reply
 closeAt = closeRule (pos 1502600 ∷ []) (pos 400 ∷ []) (pos 400 ∷ []) (pos 0 ∷ [])
 
 pub record Refusals : Type 0 where
-  -- no words; a phase past n+1; in a run, a house that is in range at its end and not after its first step
+  -- no words; a phase past n+1; in a run, a house in range at its end and not after its first step (on a sound ledger this deposit gets 5)
   pub one-empty : Refuses [] (depositRule (pos 0) (pos 1)) 1 (pos 0)
   pub one-phase : Refuses (opening (pos 4)) (depositRule (pos 0) (pos 1)) 1 (pos 0)
   pub one-house : Refuses (brim (pos 1)) (depositRule (pos 0) (pos 0)) 1 (pos 0)
@@ -120,9 +120,9 @@ pub record Acceptances : Type 0 where
   -- limit and both shortfalls, by R10
   pub question : ask byAccount short (questionRule (pos 0)) ≡ (record { number = 0; limit = pos 0; first = pos 620000; second = pos 20000 }, short)
   pub question-limit : ask byAccount (opening (pos 0)) (questionRule (pos 0)) ≡ (record { number = 0; limit = pos 50000; first = pos 0; second = pos 0 }, opening (pos 0))
-  -- the LG counts in excess one alone
+  -- the LG counts in excess one and not in excess two: the limit is 1,000,000 - 100,000 - 600,000
   pub question-letter : ask byAccount lettered (questionRule (pos 0)) ≡ (record { number = 0; limit = pos 300000; first = pos 0; second = pos 0 }, lettered)
-  -- required margin is negative, and what is due lessens the shortfall
+  -- required margin is negative, and is not held at zero: the first shortfall is -50,000 less -100,000
   pub question-negative : ask byAccount overdrawn (questionRule (pos 0)) ≡ (record { number = 0; limit = pos 0; first = pos 50000; second = pos 100000 }, overdrawn)
   -- no such account
   pub question-refused : ask byAccount short (questionRule (pos 2)) ≡ (record { number = 3; limit = pos 0; first = pos 0; second = pos 0 }, short)

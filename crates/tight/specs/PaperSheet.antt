@@ -1,5 +1,5 @@
--- The sheet of 01, "The day file and the sheet": its input gives its output, byte for byte; a byte after its last call makes that line bad, and an
--- empty text gives `BAD 1`. By computation. Assumes nothing.
+-- The sheet of 01, "The day file and the sheet": its input gives its output, byte for byte, and an empty text gives `BAD 1`. By computation.
+-- Assumes nothing.
 use mathlib.Core.Path.{_≡_, refl}
 use mathlib.Core.List.{List, _++_}
 use Prim.Native.Nat.{ℕ}
@@ -32,10 +32,6 @@ output =
 pub the-sheet : sheetOf theLedger input ≡ output
 unfolding numberAt past fieldAt figuresAt lines countLine contentsOf kindAt positionAt productsFrom accountsFrom positionsFrom callsFrom figuresOf callAt callOf callsAt bodiesOf digits decimal numbersLine badLine accountsPart callsPart goodSheet daySheet sheetOf theLedger soundBy performBy byAccount accountOk limitOf excessOne excessTwo depositOf lgValue requiredOf firstShortfall secondShortfall nextDayNeed withdrawn standingOf takesAway minZ maxZ floorDiv
 the-sheet = refl
-
-pub trailing : sheetOf theLedger (input ++ bytes "1") ≡ bytes "BAD 16\n"
-unfolding numberAt past fieldAt figuresAt lines countLine contentsOf kindAt positionAt productsFrom accountsFrom positionsFrom callsFrom figuresOf callAt callOf callsAt bodiesOf digits decimal numbersLine badLine accountsPart callsPart goodSheet daySheet sheetOf theLedger soundBy performBy byAccount accountOk limitOf excessOne excessTwo depositOf lgValue requiredOf firstShortfall secondShortfall nextDayNeed withdrawn standingOf takesAway minZ maxZ floorDiv
-trailing = refl
 
 pub no-text : sheetOf theLedger (bytes "") ≡ bytes "BAD 1\n"
 unfolding numberAt past fieldAt figuresAt lines countLine contentsOf kindAt bodiesOf digits decimal numbersLine badLine daySheet sheetOf productsFrom accountsFrom positionsFrom callsFrom callsAt

@@ -41,7 +41,7 @@ short = ledger (pos 0) (pos 0) (pos 1502500) (account (pos 0) (pos 80000) (pos 0
 abbrev pub lettered : List ℤ
 lettered = ledger (pos 0) (pos 0) (pos 1502500) (account (pos 0) (pos 1000000) (pos 1000000) (pos 1000000) (pos 600000) (negsuc 99999) (pos 0) (pos 0) (provider (pos 0) (pos 0) (pos 0) (pos 0) []))
 
--- a broker who owes 100,000 and is to receive 50,000: required margin is -50,000
+-- F, cash -100,000, no margin, due 0 50,000: required margin is -50,000
 abbrev pub overdrawn : List ℤ
 overdrawn = ledger (pos 0) (pos 0) (pos 1502500) (broker (negsuc 99999) (pos 50000) (pos 0) (pos 0) (provider (pos 0) (pos 0) (pos 0) (pos 0) []))
 
