@@ -9,19 +9,19 @@ use native.Mathlib.Omega.{arith}
 use lib.Dec.{ltb}
 use borrow.Author.Tests.{lt-ltb, le-ltb, ltb-true, ltb-false}
 use Rattle.whole.specs.Tests.{true-or-false, is-false, clash, below-or-last}
-use Rattle.portions.specs.Share.{comes, before, aheadOf}
+use Rattle.portions.specs.Share.{comesBefore, before, howManyBefore}
 use Rattle.portions.specs.Order.{Comes, is-comes, comes-trans, not-before-self, not-after}
 
 -- member j with the remainder x parts the owners of the `yen` from the other members
 pub record Cuts (n : ℕ) (r : ℕ → ℕ) (yen x j : ℕ) : Type 0 where
-  pub parts : (i : ℕ) → i < n → ltb (aheadOf n r i) yen ≡ not (comes x j (r i) i)
+  pub parts : (i : ℕ) → i < n → ltb (howManyBefore n r i) yen ≡ not (comesBefore x j (r i) i)
 
 -- the search when it has seen the members below `seen`: (x, j) and all before him get a yen, (y, k) and all after him get none, and nobody seen
 -- who gets one comes after (x, j)
 pub record Seen (n : ℕ) (r : ℕ → ℕ) (yen seen x j y k : ℕ) : Type 0 where
-  pub owners : (i : ℕ) → i < n → comes x j (r i) i ≡ false → aheadOf n r i < yen
-  pub others : (i : ℕ) → i < n → comes (r i) i y k ≡ false → yen ≤ aheadOf n r i
-  pub found : (i : ℕ) → i < seen → aheadOf n r i < yen → comes x j (r i) i ≡ false
+  pub owners : (i : ℕ) → i < n → comesBefore x j (r i) i ≡ false → howManyBefore n r i < yen
+  pub others : (i : ℕ) → i < n → comesBefore (r i) i y k ≡ false → yen ≤ howManyBefore n r i
+  pub found : (i : ℕ) → i < seen → howManyBefore n r i < yen → comesBefore x j (r i) i ≡ false
 
 module _ {n : ℕ} {r : ℕ → ℕ} {yen : ℕ} where
   -- it starts with nobody: a remainder above all, and one below all
@@ -42,17 +42,17 @@ module _ {n : ℕ} {r : ℕ → ℕ} {yen : ℕ} where
       record {
         parts =
             λ i b. ⊎-elim
-            (λ e. rw e (le-ltb (aheadOf n r i) yen (late i b e)))
-            (λ e. rw e (lt-ltb (aheadOf n r i) yen (s .owners i b e)))
-            (true-or-false (comes x j (r i) i));
+            (λ e. rw e (le-ltb (howManyBefore n r i) yen (late i b e)))
+            (λ e. rw e (lt-ltb (howManyBefore n r i) yen (s .owners i b e)))
+            (true-or-false (comesBefore x j (r i) i));
       }
     where
-      late : (i : ℕ) → i < n → comes x j (r i) i ≡ true → yen ≤ aheadOf n r i
-      late i b e = ⊎-elim (λ h. clash e (s .found i b (ltb-true (aheadOf n r i) yen h))) (λ h. ltb-false (aheadOf n r i) yen h) (true-or-false (ltb (aheadOf n r i) yen))
+      late : (i : ℕ) → i < n → comesBefore x j (r i) i ≡ true → yen ≤ howManyBefore n r i
+      late i b e = ⊎-elim (λ h. clash e (s .found i b (ltb-true (howManyBefore n r i) yen h))) (λ h. ltb-false (howManyBefore n r i) yen h) (true-or-false (ltb (howManyBefore n r i) yen))
 
   module _ {i x j y k : ℕ} (b : i < n) (s : Seen n r yen i x j y k) where
     -- the next member, of whom nothing new is learnt
-    skip : (aheadOf n r i < yen → comes x j (r i) i ≡ false) → Seen n r yen (i + 1) x j y k
+    skip : (howManyBefore n r i < yen → comesBefore x j (r i) i ≡ false) → Seen n r yen (i + 1) x j y k
     skip h =
         record {
           owners = s .owners;
@@ -61,15 +61,15 @@ module _ {n : ℕ} {r : ℕ → ℕ} {yen : ℕ} where
         }
 
     -- he comes no later than the last owner found
-    pub early : comes x j (r i) i ≡ false → Seen n r yen (i + 1) x j y k
+    pub early : comesBefore x j (r i) i ≡ false → Seen n r yen (i + 1) x j y k
     early e = skip (λ h. e)
 
     -- he comes no earlier than the first who gets none
-    pub late : comes (r i) i y k ≡ false → Seen n r yen (i + 1) x j y k
+    pub late : comesBefore (r i) i y k ≡ false → Seen n r yen (i + 1) x j y k
     late e = skip (λ h. absurd (omega (arith, s .others i b e)))
 
     -- he is the last owner now
-    pub owns : comes x j (r i) i ≡ true → aheadOf n r i < yen → Seen n r yen (i + 1) (r i) i y k
+    pub owns : comesBefore x j (r i) i ≡ true → howManyBefore n r i < yen → Seen n r yen (i + 1) (r i) i y k
     unfolding before
     owns e h =
         record {
@@ -77,13 +77,13 @@ module _ {n : ℕ} {r : ℕ → ℕ} {yen : ℕ} where
           others = s .others;
           found =
               λ m c f. ⊎-elim
-              (λ d. is-false (comes (r i) i (r m) m) (λ g. clash (comes-trans x j (r i) i (r m) m e g) (s .found m d f)))
+              (λ d. is-false (comesBefore (r i) i (r m) m) (λ g. clash (comes-trans x j (r i) i (r m) m e g) (s .found m d f)))
               (λ q. rw q (not-before-self r i))
               (below-or-last m i (rw add-one at c));
         }
 
     -- he is the first who gets none now
-    pub lacks : yen ≤ aheadOf n r i → Seen n r yen (i + 1) x j (r i) i
+    pub lacks : yen ≤ howManyBefore n r i → Seen n r yen (i + 1) x j (r i) i
     unfolding before
     lacks h =
         record {

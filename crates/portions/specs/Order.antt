@@ -1,5 +1,5 @@
--- The order of the remainders: of two members one comes before the other, no two have as many ahead of them, and so of n members
--- exactly l have fewer than l ahead of them, for each l up to n. Assumes nothing.
+-- The order of the remainders: of two members one comes before the other, no two have as many before them, and so of n members
+-- exactly l have fewer than l before them, for each l up to n. Assumes nothing.
 use mathlib.Core.Path.{_≡_, refl, sym, _∙_}
 use mathlib.Core.Bool.{Bool, true, false, _&&_, _||_}
 use mathlib.Core.Logic.{_⊎_, inl, inr, ⊎-elim}
@@ -12,13 +12,13 @@ use Rattle.whole.specs.Counting.{howMany, one-if}
 use Rattle.whole.specs.CountingLaws.{total-same, total-le, total-add, many-lt, many-none, many-all, many-once}
 use Rattle.whole.specs.Signs.{false-true}
 use Rattle.whole.specs.Tests.{is-false, clash}
-use Rattle.portions.specs.Share.{comes, before, aheadOf}
+use Rattle.portions.specs.Share.{comesBefore, before, howManyBefore}
 
 -- what it says that j, with the remainder x, comes before i, with the remainder y
 abbrev pub Comes : ℕ → ℕ → ℕ → ℕ → Type 0
 Comes x j y i = (y < x) ⊎ ((x ≡ y) × (j < i))
 
-pub comes-true : (x j y i : ℕ) → comes x j y i ≡ true → Comes x j y i
+pub comes-true : (x j y i : ℕ) → comesBefore x j y i ≡ true → Comes x j y i
 comes-true x j y i e = go (ltb y x) (eqb x y) (ltb j i) refl refl refl e
   where
     go : (s t u : Bool) → ltb y x ≡ s → eqb x y ≡ t → ltb j i ≡ u → (s || (t && u)) ≡ true → Comes x j y i
@@ -27,7 +27,7 @@ comes-true x j y i e = go (ltb y x) (eqb x y) (ltb j i) refl refl refl e
     go false true false p q v e = absurd (false-true e)
     go false false u p q v e = absurd (false-true e)
 
-pub is-comes : (x j y i : ℕ) → Comes x j y i → comes x j y i ≡ true
+pub is-comes : (x j y i : ℕ) → Comes x j y i → comesBefore x j y i ≡ true
 is-comes x j y i (inl h) = rw (lt-ltb y x h)
 is-comes x j y i (inr h) = rw (eq-eqb x y (h .0), lt-ltb j i (h .1)) (either (ltb y x))
   where
@@ -35,7 +35,7 @@ is-comes x j y i (inr h) = rw (eq-eqb x y (h .0), lt-ltb j i (h .1)) (either (lt
     either true = refl
     either false = refl
 
-pub comes-trans : (x a y b z c : ℕ) → comes x a y b ≡ true → comes y b z c ≡ true → comes x a z c ≡ true
+pub comes-trans : (x a y b z c : ℕ) → comesBefore x a y b ≡ true → comesBefore y b z c ≡ true → comesBefore x a z c ≡ true
 comes-trans x a y b z c p q = is-comes x a z c (go (comes-true x a y b p) (comes-true y b z c q))
   where
     go : Comes x a y b → Comes y b z c → Comes x a z c
@@ -77,22 +77,22 @@ three-ways i t = go (ltb i t) (ltb t i) refl refl
     go false true e f = inr (inl (ltb-true t i f))
     go false false e f = inr (inr (omega (arith, ltb-false i t e, ltb-false t i f)))
 
--- ---- how many are ahead: of n members exactly l have fewer than l ahead of them
+-- ---- how many come before: of n members exactly l have fewer than l before them
 
 module _ (n : ℕ) (r : ℕ → ℕ) where
-  pub ahead-lt : (i j : ℕ) → i < n → before r i j ≡ true → aheadOf n r i < aheadOf n r j
-  unfolding aheadOf
-  ahead-lt i j b e = many-lt n (λ a. before r a i) (λ a. before r a j) i b (not-before-self r i) e (λ a c h. before-trans r a i j h e)
+  pub many-before-lt : (i j : ℕ) → i < n → before r i j ≡ true → howManyBefore n r i < howManyBefore n r j
+  unfolding howManyBefore
+  many-before-lt i j b e = many-lt n (λ a. before r a i) (λ a. before r a j) i b (not-before-self r i) e (λ a c h. before-trans r a i j h e)
 
-  pub ahead-most : (i : ℕ) → i < n → aheadOf n r i < n
-  unfolding aheadOf
-  ahead-most i b = omega (arith, many-all n (λ a. true) (λ a c. refl), many-lt n (λ a. before r a i) (λ a. true) i b (not-before-self r i) refl (λ a c h. refl))
+  pub many-before-most : (i : ℕ) → i < n → howManyBefore n r i < n
+  unfolding howManyBefore
+  many-before-most i b = omega (arith, many-all n (λ a. true) (λ a c. refl), many-lt n (λ a. before r a i) (λ a. true) i b (not-before-self r i) refl (λ a c h. refl))
 
-  apart : (i j : ℕ) → i < j → j < n → aheadOf n r i ≡ aheadOf n r j → ⊥
-  apart i j b c e = ⊎-elim (λ h. omega (arith, ahead-lt i j (omega arith) h)) (λ h. omega (arith, ahead-lt j i c h)) (one-first r i j b)
+  apart : (i j : ℕ) → i < j → j < n → howManyBefore n r i ≡ howManyBefore n r j → ⊥
+  apart i j b c e = ⊎-elim (λ h. omega (arith, many-before-lt i j (omega arith) h)) (λ h. omega (arith, many-before-lt j i c h)) (one-first r i j b)
 
   abbrev pub served : ℕ → ℕ
-  served l = howMany n (λ i. ltb (aheadOf n r i) l)
+  served l = howMany n (λ i. ltb (howManyBefore n r i) l)
 
   next : (l p : ℕ) → one-if (ltb p (suc l)) ≤ one-if (ltb p l) + one-if (eqb p l)
   next l p = go (ltb p l) (eqb p l) refl refl
@@ -106,16 +106,16 @@ module _ (n : ℕ) (r : ℕ → ℕ) where
   served-suc l =
       omega (
         arith,
-        total-le n (λ i. one-if (ltb (aheadOf n r i) (suc l))) (λ i. one-if (ltb (aheadOf n r i) l) + one-if (eqb (aheadOf n r i) l)) (λ i b. next l (aheadOf n r i)),
-        total-add n (λ i. one-if (ltb (aheadOf n r i) l)) (λ i. one-if (eqb (aheadOf n r i) l)),
-        many-once n (λ i. eqb (aheadOf n r i) l) (λ i j b c e f. apart i j b c (eqb-true (aheadOf n r i) l e ∙ sym (eqb-true (aheadOf n r j) l f))),
+        total-le n (λ i. one-if (ltb (howManyBefore n r i) (suc l))) (λ i. one-if (ltb (howManyBefore n r i) l) + one-if (eqb (howManyBefore n r i) l)) (λ i b. next l (howManyBefore n r i)),
+        total-add n (λ i. one-if (ltb (howManyBefore n r i) l)) (λ i. one-if (eqb (howManyBefore n r i) l)),
+        many-once n (λ i. eqb (howManyBefore n r i) l) (λ i j b c e f. apart i j b c (eqb-true (howManyBefore n r i) l e ∙ sym (eqb-true (howManyBefore n r j) l f))),
       )
 
   served-none : served 0 ≡ 0
-  served-none = many-none n (λ i. ltb (aheadOf n r i) 0) (λ i b. le-ltb (aheadOf n r i) 0 zero-le)
+  served-none = many-none n (λ i. ltb (howManyBefore n r i) 0) (λ i b. le-ltb (howManyBefore n r i) 0 zero-le)
 
   served-all : served n ≡ n
-  served-all = many-all n (λ i. ltb (aheadOf n r i) n) (λ i b. lt-ltb (aheadOf n r i) n (ahead-most i b))
+  served-all = many-all n (λ i. ltb (howManyBefore n r i) n) (λ i b. lt-ltb (howManyBefore n r i) n (many-before-most i b))
 
   served-le : (l : ℕ) → served l ≤ l
   served-le zero = omega (arith, served-none)
@@ -130,16 +130,16 @@ module _ (n : ℕ) (r : ℕ → ℕ) where
 
 -- who does not come after another comes before him or is he
 module _ (n : ℕ) (r : ℕ → ℕ) where
-  pub not-after : (i t : ℕ) → i < n → before r t i ≡ false → aheadOf n r i ≤ aheadOf n r t
+  pub not-after : (i t : ℕ) → i < n → before r t i ≡ false → howManyBefore n r i ≤ howManyBefore n r t
   not-after i t c h = ⊎-elim (λ l. lower l) (λ l. ⊎-elim (λ m. higher m) (λ e. rw e (omega arith)) l) (three-ways i t)
     where
-      lower : i < t → aheadOf n r i ≤ aheadOf n r t
-      lower l = ⊎-elim (λ k. omega (arith, ahead-lt n r i t c k)) (λ k. clash k h) (one-first r i t l)
+      lower : i < t → howManyBefore n r i ≤ howManyBefore n r t
+      lower l = ⊎-elim (λ k. omega (arith, many-before-lt n r i t c k)) (λ k. clash k h) (one-first r i t l)
 
-      higher : t < i → aheadOf n r i ≤ aheadOf n r t
-      higher l = ⊎-elim (λ k. clash k h) (λ k. omega (arith, ahead-lt n r i t c k)) (one-first r t i l)
+      higher : t < i → howManyBefore n r i ≤ howManyBefore n r t
+      higher l = ⊎-elim (λ k. clash k h) (λ k. omega (arith, many-before-lt n r i t c k)) (one-first r t i l)
 
--- how many are ahead depends on the remainders of the n members alone
-pub ahead-same : (n : ℕ) (r s : ℕ → ℕ) → ((i : ℕ) → i < n → r i ≡ s i) → (i : ℕ) → i < n → aheadOf n r i ≡ aheadOf n s i
-unfolding aheadOf before
-ahead-same n r s h i b = total-same n (λ j. one-if (before r j i)) (λ j. one-if (before s j i)) (λ j c. rw (h i b, h j c) refl)
+-- how many come before depends on the remainders of the n members alone
+pub many-before-same : (n : ℕ) (r s : ℕ → ℕ) → ((i : ℕ) → i < n → r i ≡ s i) → (i : ℕ) → i < n → howManyBefore n r i ≡ howManyBefore n s i
+unfolding howManyBefore before
+many-before-same n r s h i b = total-same n (λ j. one-if (before r j i)) (λ j. one-if (before s j i)) (λ j c. rw (h i b, h j c) refl)

@@ -11,8 +11,8 @@ use borrow.Author.Tests.{ltb-true, ltb-false}
 use Rattle.whole.specs.Counting.{total, howMany}
 use Rattle.whole.specs.CountingLaws.{total-most}
 use Rattle.whole.specs.Tests.{true-or-false, clash}
-use Rattle.portions.specs.Share.{before, aheadOf, remainderOf, left, gets-yen, shareOf}
-use Rattle.portions.specs.Order.{three-ways, one-first, ahead-lt, served-is}
+use Rattle.portions.specs.Share.{before, howManyBefore, remainderOf, left, getsYen, shareOf}
+use Rattle.portions.specs.Order.{three-ways, one-first, many-before-lt, served-is}
 use Rattle.portions.specs.ShareLaws.{share-near, left-most, larger, tie, shares-are-amount, some-or-none, share-none, share-nothing, share-no-weight}
 
 module _ (n : ℕ) (weight : ℕ → ℕ) (amount : ℕ) where
@@ -27,7 +27,7 @@ module _ (n : ℕ) (weight : ℕ → ℕ) (amount : ℕ) where
   remainder = remainderOf n weight amount
 
   abbrev gets : ℕ → Bool
-  gets = gets-yen n weight amount
+  gets = getsYen n weight amount
 
   -- The shares add exactly to the amount, where somebody has a weight;
   pub shares-add : 0 < sum → total n share ≡ amount
@@ -87,9 +87,9 @@ module _ (n : ℕ) (weight : ℕ → ℕ) (amount : ℕ) where
     where
       no : before remainder j i ≡ true → before remainder i j ≡ true
       no h =
-          let p = ltb-true (aheadOf n remainder i) (left n weight amount) e in
-          let q = ltb-false (aheadOf n remainder j) (left n weight amount) f in
-          absurd (omega (arith, ahead-lt n remainder j i c h))
+          let p = ltb-true (howManyBefore n remainder i) (left n weight amount) e in
+          let q = ltb-false (howManyBefore n remainder j) (left n weight amount) f in
+          absurd (omega (arith, many-before-lt n remainder j i c h))
 
       lower : i < j → before remainder i j ≡ true
       lower l = ⊎-elim (λ h. h) no (one-first remainder i j l)

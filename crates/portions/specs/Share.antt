@@ -9,16 +9,17 @@ use lib.IntN.{ℤ, pos}
 use lib.ListN.{length, getD}
 use Rattle.whole.specs.Counting.{total, howMany, one-if, listed}
 
--- member j with the remainder x comes before member i with the remainder y: his is larger, or the same and his number is lower
-abbrev pub comes : ℕ → ℕ → ℕ → ℕ → Bool
-comes x j y i = ltb y x || (eqb x y && ltb j i)
+-- member j with the remainder x comes before member i with the remainder y: his remainder is larger, or the two are the same and his number is lower
+abbrev pub comesBefore : ℕ → ℕ → ℕ → ℕ → Bool
+comesBefore x j y i = ltb y x || (eqb x y && ltb j i)
 
+-- the same of two of the members, by the remainder of each
 unfoldable pub before : (ℕ → ℕ) → ℕ → ℕ → Bool
-before remainder j i = comes (remainder j) j (remainder i) i
+before remainder j i = comesBefore (remainder j) j (remainder i) i
 
 -- how many of n members come before i
-unfoldable pub aheadOf : ℕ → (ℕ → ℕ) → ℕ → ℕ
-aheadOf n remainder i = howMany n (λ j. before remainder j i)
+unfoldable pub howManyBefore : ℕ → (ℕ → ℕ) → ℕ → ℕ
+howManyBefore n remainder i = howMany n (λ j. before remainder j i)
 
 -- n members, their weights, and the amount to share among them
 module _ (n : ℕ) (weight : ℕ → ℕ) (amount : ℕ) where
@@ -34,22 +35,23 @@ module _ (n : ℕ) (weight : ℕ → ℕ) (amount : ℕ) where
   unfoldable pub left : ℕ
   left = amount - total n floorOf
 
-  -- i gets one of them if fewer members come before him than there are yen left
-  abbrev pub gets-yen : ℕ → Bool
-  gets-yen i = ltb (aheadOf n remainderOf i) left
+  -- where somebody has a weight: i gets one of them exactly if fewer members come before him than there are yen left
+  abbrev pub getsYen : ℕ → Bool
+  getsYen i = ltb (howManyBefore n remainderOf i) left
 
   -- a member's share; where nobody has a weight nobody gets anything
   unfoldable pub shareOf : ℕ → ℕ
-  shareOf i = cond (eqb (total n weight) 0) 0 (floorOf i + one-if (gets-yen i))
+  shareOf i = cond (eqb (total n weight) 0) 0 (floorOf i + one-if (getsYen i))
 
--- member i's figure in a list
+-- member i's figure in a list, members counted from 0; 0 past its end
 abbrev pub ofMember : List ℕ → ℕ → ℕ
 ofMember l i = getD l i 0
 
--- the same of a list of weights
+-- the sum of a list of weights
 abbrev pub sumOf : List ℕ → ℕ
 sumOf weights = total (length weights) (ofMember weights)
 
+-- every member's floor, where somebody has a weight
 abbrev pub floors : ℕ → List ℕ → List ℤ
 floors amount weights = listed (length weights) (λ i. pos (floorOf (length weights) (ofMember weights) amount i))
 

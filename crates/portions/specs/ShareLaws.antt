@@ -10,8 +10,8 @@ use borrow.Author.Tests.{ltb-true, ltb-false, lt-ltb, eq-eqb, ne-eqb}
 use Rattle.whole.specs.Counting.{total, howMany, one-if}
 use Rattle.whole.specs.CountingLaws.{total-same, total-le, total-add, total-times, total-one, many-le, many-all}
 use Rattle.whole.specs.Tests.{true-or-false}
-use Rattle.portions.specs.Share.{before, aheadOf, floorOf, remainderOf, left, shareOf}
-use Rattle.portions.specs.Order.{is-before, ahead-lt, ahead-same, served-is}
+use Rattle.portions.specs.Share.{before, howManyBefore, floorOf, remainderOf, left, shareOf}
+use Rattle.portions.specs.Order.{is-before, many-before-lt, many-before-same, served-is}
 
 module _ (n : ℕ) (weight : ℕ → ℕ) (amount : ℕ) (some : 0 < total n weight) where
   abbrev whole : ℕ
@@ -23,7 +23,7 @@ module _ (n : ℕ) (weight : ℕ → ℕ) (amount : ℕ) (some : 0 < total n wei
   abbrev rem : ℕ → ℕ
   rem = remainderOf n weight amount
 
-  pub share-is : (i : ℕ) → shareOf n weight amount i ≡ floor i + one-if (ltb (aheadOf n rem i) (left n weight amount))
+  pub share-is : (i : ℕ) → shareOf n weight amount i ≡ floor i + one-if (ltb (howManyBefore n rem i) (left n weight amount))
   unfolding shareOf
   share-is i = rw (ne-eqb (total n weight) 0 (λ e. omega arith))
 
@@ -78,8 +78,8 @@ module _ (n : ℕ) (weight : ℕ → ℕ) (amount : ℕ) (some : 0 < total n wei
   left-most = omega (arith, left-le, count-most some-left)
 
   -- a yen left goes to nobody whose share came out even
-  pub extra-some : (i : ℕ) → aheadOf n rem i < left n weight amount → 0 < rem i
-  unfolding aheadOf
+  pub extra-some : (i : ℕ) → howManyBefore n rem i < left n weight amount → 0 < rem i
+  unfolding howManyBefore
   extra-some i h = ⊎-elim (λ e. ltb-true 0 (rem i) e) (λ e. absurd (omega (arith, left-le, all-before (ltb-false 0 (rem i) e)))) (true-or-false (some-left i))
     where
       all-before : rem i ≤ 0 → howMany n some-left ≤ howMany n (λ j. before rem j i)
@@ -88,18 +88,18 @@ module _ (n : ℕ) (weight : ℕ → ℕ) (amount : ℕ) (some : 0 < total n wei
   -- THE SHARES ADD EXACTLY TO THE AMOUNT
   pub shares-are-amount : total n (shareOf n weight amount) ≡ amount
   shares-are-amount =
-      total-same n (shareOf n weight amount) (λ i. floor i + one-if (ltb (aheadOf n rem i) (left n weight amount))) (λ i b. share-is i)
-      ∙ total-add n floor (λ i. one-if (ltb (aheadOf n rem i) (left n weight amount)))
+      total-same n (shareOf n weight amount) (λ i. floor i + one-if (ltb (howManyBefore n rem i) (left n weight amount))) (λ i b. share-is i)
+      ∙ total-add n floor (λ i. one-if (ltb (howManyBefore n rem i) (left n weight amount)))
       ∙ ap (λ x. total n floor + x) (served-is n rem (left n weight amount) left-most)
       ∙ left-is
 
-  -- a share is the floor; or the floor and a yen, where fewer are ahead than there are yen left
-  pub share-cases : (i : ℕ) → (shareOf n weight amount i ≡ floor i) ⊎ ((shareOf n weight amount i ≡ floor i + 1) × (aheadOf n rem i < left n weight amount))
+  -- a share is the floor; or the floor and a yen, where fewer come before him than there are yen left
+  pub share-cases : (i : ℕ) → (shareOf n weight amount i ≡ floor i) ⊎ ((shareOf n weight amount i ≡ floor i + 1) × (howManyBefore n rem i < left n weight amount))
   share-cases i =
       ⊎-elim
-      (λ e. inr (share-is i ∙ rw e refl, ltb-true (aheadOf n rem i) (left n weight amount) e))
+      (λ e. inr (share-is i ∙ rw e refl, ltb-true (howManyBefore n rem i) (left n weight amount) e))
       (λ e. inl (share-is i ∙ rw e (add-zero (floor i))))
-      (true-or-false (ltb (aheadOf n rem i) (left n weight amount)))
+      (true-or-false (ltb (howManyBefore n rem i) (left n weight amount)))
 
   pub share-low : (i : ℕ) → floor i ≤ shareOf n weight amount i
   share-low i = omega (arith, share-is i)
@@ -120,7 +120,7 @@ module _ (n : ℕ) (weight : ℕ → ℕ) (amount : ℕ) (some : 0 < total n wei
   first-more i j b e h =
       ⊎-elim
       (λ f. omega (arith, share-low i))
-      (λ f. rw (share-is i, lt-ltb (aheadOf n rem i) (left n weight amount) (omega (arith, ahead-lt n rem i j b e))) (omega arith))
+      (λ f. rw (share-is i, lt-ltb (howManyBefore n rem i) (left n weight amount) (omega (arith, many-before-lt n rem i j b e))) (omega arith))
       (share-cases j)
 
   larger-floor : (i j : ℕ) → amount * weight j ≤ amount * weight i → floor j ≤ floor i
@@ -189,4 +189,4 @@ module _ (n : ℕ) (v w : ℕ → ℕ) (amount : ℕ) (h : (i : ℕ) → i < n �
   pub share-same : (i : ℕ) → i < n → shareOf n v amount i ≡ shareOf n w amount i
   unfolding shareOf
   share-same i b =
-      rw (total-same n v w h, floor-same i b, ahead-same n (remainderOf n v amount) (remainderOf n w amount) remainder-same i b, left-same)
+      rw (total-same n v w h, floor-same i b, many-before-same n (remainderOf n v amount) (remainderOf n w amount) remainder-same i b, left-same)

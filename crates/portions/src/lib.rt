@@ -52,24 +52,24 @@ fn floors(amount: u64, sum: u64, weights: &[u64], remainders: &mut [u64], out: &
 
 // Whether member j, with the remainder x, comes before member i, with the remainder y: the larger remainder first, the lower account on a tie.
 fn comes_before(x: u64, j: usize, y: u64, i: usize) -> bool
-    ensures { λ r. ⌜ r ≡ S.comes x j y i ⌝ }
+    ensures { λ r. ⌜ r ≡ S.comesBefore x j y i ⌝ }
 {
     if x == y { j < i } else { y < x }
 }
 
 // How many of n members come before member i.
-fn ahead_of(remainders: &[u64], n: usize, i: usize) -> u64
+fn how_many_before(remainders: &[u64], n: usize, i: usize) -> u64
     requires { ⌜ n ≤ most-members ⌝ ∗ ⌜ i < n ⌝ ∗ ⌜ n ≤ length (now remainders) ⌝ }
-    ensures { λ r. ⌜ r ≡ S.aheadOf n (S.ofMember (now (remainders .entry))) i ⌝ }
+    ensures { λ r. ⌜ r ≡ S.howManyBefore n (S.ofMember (now (remainders .entry))) i ⌝ }
 {
     let own = remainders[i];
-    let mut ahead: u64 = 0;
+    let mut many: u64 = 0;
     let mut j: usize = 0;
     while j < n {
-        ahead += comes_before(remainders[j], j, own, i) as u64;
+        many += comes_before(remainders[j], j, own, i) as u64;
         j += 1;
     }
-    ahead
+    many
 }
 
 // x, or a yen more.
@@ -88,7 +88,7 @@ struct Cut {
     other: usize,
 }
 
-// Looks at member i. Who is ahead of him is counted only where he stands between the two.
+// Looks at member i. How many come before him is counted only where he stands between the two.
 fn narrow(yen: u64, remainders: &[u64], n: usize, i: usize, cut: Cut) -> Cut
     requires { ⌜ n ≤ most-members ⌝ ∗ ⌜ i < n ⌝ ∗ ⌜ n ≤ length (now remainders) ⌝ ∗ ⌜ Seen n (S.ofMember (now remainders)) yen i (cut .last) (cut .owner) (cut .next) (cut .other) ⌝ }
     ensures { λ r. ⌜ Seen n (S.ofMember (now (remainders .entry))) yen (i + 1) (r .last) (r .owner) (r .next) (r .other) ⌝ }
@@ -100,7 +100,7 @@ fn narrow(yen: u64, remainders: &[u64], n: usize, i: usize, cut: Cut) -> Cut
     if !comes_before(own, i, cut.next, cut.other) {
         return cut;
     }
-    if ahead_of(remainders, n, i) < yen {
+    if how_many_before(remainders, n, i) < yen {
         Cut {
             last: own,
             owner: i,
@@ -139,7 +139,7 @@ fn cut_of(yen: u64, sum: u64, remainders: &[u64], n: usize) -> Cut
 // Gives a yen to each member whom the last owner does not come before.
 fn hand_out(last: u64, owner: usize, remainders: &[u64], out: &mut [i64])
     requires { ⌜ length (now out) ≤ length (now remainders) ⌝ ∗ ⌜ Each most-amount (now out) ⌝ }
-    ensures { λ _. ⌜ now (out .exit) ≡ listed (length (now (out .entry))) (λ i. getD (now (out .entry)) i (pos 0) +ℤ pos (one-if (not (S.comes last owner (S.ofMember (now (remainders .entry)) i) i)))) ⌝ }
+    ensures { λ _. ⌜ now (out .exit) ≡ listed (length (now (out .entry))) (λ i. getD (now (out .entry)) i (pos 0) +ℤ pos (one-if (not (S.comesBefore last owner (S.ofMember (now (remainders .entry)) i) i)))) ⌝ }
 {
     let mut i: usize = 0;
     while i < out.len() {

@@ -6,13 +6,13 @@ use Prim.Native.Nat.{ℕ, _+_, _<_}
 use native.Mathlib.Omega.{arith}
 use lib.IntN.{ℤ, pos, negsuc}
 use Rattle.whole.specs.Counting.{listed}
-use Rattle.portions.specs.Share.{before, aheadOf, floorOf, remainderOf, left, shareOf, ofMember, shares}
+use Rattle.portions.specs.Share.{before, howManyBefore, floorOf, remainderOf, left, shareOf, ofMember, shares}
 use Rattle.portions.specs.PortionTheorems.{shares-add, equal-weights}
 use Rattle.shares.specs.Loss.{refusal, weightOf, negativeOf, weight, negative, layer, layerShares, mostTwo, remains, reply, lossShared}
 
 -- R11: weights 5, 7, 9 million, layer 10
 pub r11 : shares 10 (5000000 ∷ 7000000 ∷ 9000000 ∷ []) ≡ pos 3 ∷ pos 3 ∷ pos 4 ∷ []
-unfolding listed before aheadOf floorOf remainderOf left shareOf
+unfolding listed before howManyBefore floorOf remainderOf left shareOf
 r11 = refl
 
 -- and whatever the three equal weights are
@@ -46,7 +46,7 @@ blank = pos 7 ∷ pos 7 ∷ pos 7 ∷ []
 
 -- a loss of 12,000,000: 5,000,000 to each survivor, then 900,000 to the first, 1,100,000 uncovered
 pub worked : lossShared (pos 12000000) deposits differences marks blank blank ≡ (reply 0 (pos 1100000), pos 5000000 ∷ pos 5000000 ∷ pos 0 ∷ [], pos 900000 ∷ pos 0 ∷ pos 0 ∷ [])
-unfolding listed before aheadOf floorOf remainderOf left shareOf refusal weightOf negativeOf weight negative layer layerShares mostTwo remains lossShared
+unfolding listed before howManyBefore floorOf remainderOf left shareOf refusal weightOf negativeOf weight negative layer layerShares mostTwo remains lossShared
 worked = refl
 
 -- a loss below 0 is refused, and nothing is written

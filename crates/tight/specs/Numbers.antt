@@ -17,7 +17,7 @@ use Rattle.acts.specs.Trade.{tradeRule}
 use Rattle.acts.specs.Run.{beginRule, stepRule}
 use Rattle.daily.specs.DailyFigures.{newDue, newMargin}
 use Rattle.closing.specs.Close.{accountPuts, closePuts, closeRule}
-use Rattle.tight.specs.Small.{ledger, account, broker, provider, opening, settled, full, holding, short, lettered, overdrawn, brim}
+use Rattle.tight.specs.Small.{ledger, account, broker, provider, opening, settled, full, holding, short, withGuarantee, overdrawn, brim}
 
 -- the rule on the words W is refused with the number k and the figure z, and leaves the words
 abbrev pub Refuses : List ℤ → Rule Reply → ℕ → ℤ → Type 0
@@ -32,20 +32,22 @@ abbrev pub closeAt : Rule Reply
 closeAt = closeRule (pos 1502600 ∷ []) (pos 400 ∷ []) (pos 400 ∷ []) (pos 0 ∷ [])
 
 pub record Refusals : Type 0 where
-  -- no words; a phase past n+1; in a run, a house in range at its end and not after its first step (on a sound ledger this deposit gets 5)
+  -- no words; a phase past n+1
   pub one-empty : Refuses [] (depositRule (pos 0) (pos 1)) 1 (pos 0)
   pub one-phase : Refuses (opening (pos 4)) (depositRule (pos 0) (pos 1)) 1 (pos 0)
+  -- in a run, a house in range at its end and not after its first step; on a sound ledger a deposit of 0 gets 5
   pub one-house : Refuses (brim (pos 1)) (depositRule (pos 0) (pos 0)) 1 (pos 0)
   -- lists too short
   pub two : Refuses (settled (pos 0) (pos 0)) (closeRule [] [] [] []) 2 (pos 0)
   pub three-above : Refuses (opening (pos 0)) (depositRule (pos 2) (pos 1)) 3 (pos 0)
   pub three-below : Refuses (opening (pos 0)) (withdrawRule (negsuc 0) (pos 1)) 3 (pos 0)
+  pub three-question : ask byAccount short (questionRule (pos 2)) ≡ (record { number = 3; limit = pos 0; first = pos 0; second = pos 0 }, short)
   pub four : Refuses (opening (pos 0)) (tradeRule (pos 0) (pos 1) (pos 1) (pos 1) (pos 1502500)) 4 (pos 0)
   pub five-deposit : Refuses (opening (pos 0)) (depositRule (pos 0) (pos 0)) 5 (pos 0)
   pub five-withdrawal : Refuses (opening (pos 0)) (withdrawRule (pos 0) (pos 0)) 5 (pos 0)
   -- a guarantee out of range, for an L: the lowest number
   pub five-guarantee : Refuses (opening (pos 0)) (guaranteeRule (pos 1) (pos 1000000000001) (pos 0)) 5 (pos 0)
-  -- a guarantee for an L; a trade of two F
+  -- a guarantee for an L; a trade of an F with itself
   pub six-guarantee : Refuses (opening (pos 0)) (guaranteeRule (pos 1) (pos 1) (pos 1)) 6 (pos 0)
   pub six-trade : Refuses (opening (pos 0)) (tradeRule (pos 0) (pos 0) (pos 0) (pos 1) (pos 1502500)) 6 (pos 0)
   pub seven-step : Refuses (opening (pos 0)) stepRule 7 (pos 0)
@@ -74,6 +76,7 @@ refusals =
       two = refl;
       three-above = refl;
       three-below = refl;
+      three-question = refl;
       four = refl;
       five-deposit = refl;
       five-withdrawal = refl;
@@ -120,12 +123,10 @@ pub record Acceptances : Type 0 where
   -- limit and both shortfalls, by R10
   pub question : ask byAccount short (questionRule (pos 0)) ≡ (record { number = 0; limit = pos 0; first = pos 620000; second = pos 20000 }, short)
   pub question-limit : ask byAccount (opening (pos 0)) (questionRule (pos 0)) ≡ (record { number = 0; limit = pos 50000; first = pos 0; second = pos 0 }, opening (pos 0))
-  -- the LG counts in excess one and not in excess two: the limit is 1,000,000 - 100,000 - 600,000
-  pub question-letter : ask byAccount lettered (questionRule (pos 0)) ≡ (record { number = 0; limit = pos 300000; first = pos 0; second = pos 0 }, lettered)
+  -- the LG does not count in excess two, which is 1,000,000 - 100,000 - 600,000; excess one is 845,000
+  pub question-guarantee : ask byAccount withGuarantee (questionRule (pos 0)) ≡ (record { number = 0; limit = pos 300000; first = pos 0; second = pos 0 }, withGuarantee)
   -- required margin is negative, and is not held at zero: the first shortfall is -50,000 less -100,000
   pub question-negative : ask byAccount overdrawn (questionRule (pos 0)) ≡ (record { number = 0; limit = pos 0; first = pos 50000; second = pos 100000 }, overdrawn)
-  -- no such account
-  pub question-refused : ask byAccount short (questionRule (pos 2)) ≡ (record { number = 3; limit = pos 0; first = pos 0; second = pos 0 }, short)
 
 pub acceptances : Acceptances
 unfolding soundBy performBy byAccount accountOk limitOf excessOne excessTwo depositOf lgValue requiredOf firstShortfall secondShortfall nextDayNeed deposited withdrawn guaranteed standingOf takesAway minZ maxZ floorDiv closePuts accountPuts newDue newMargin rateOf differenceOf
@@ -141,7 +142,6 @@ acceptances =
       close = refl;
       question = refl;
       question-limit = refl;
-      question-letter = refl;
+      question-guarantee = refl;
       question-negative = refl;
-      question-refused = refl;
     }

@@ -1,4 +1,4 @@
--- One small ledger (01, "The ledger's words"), by the words that the examples change: two accounts, one yen product at 1,502,500.
+-- One small ledger (01, "The ledger's words"), by the words that the examples change: two accounts, one yen product.
 use mathlib.Core.List.{List, [], _∷_}
 use lib.IntN.{ℤ, pos, negsuc}
 
@@ -10,7 +10,7 @@ ledger phase house price accounts = pos 2 ∷ pos 1 ∷ phase ∷ house ∷ pos 
 abbrev pub account : ℤ → ℤ → ℤ → ℤ → ℤ → ℤ → ℤ → ℤ → List ℤ → List ℤ
 account kind cash guarantee cap margin due lots book rest = kind ∷ cash ∷ guarantee ∷ cap ∷ margin ∷ due ∷ pos 0 ∷ pos 0 ∷ lots ∷ book ∷ rest
 
--- by cash, due 0, lots and book: a broker, without a guarantee, and a liquidity provider, without a margin
+-- by cash, due 0, lots and book: a broker and a liquidity provider, without guarantee and initial margin
 abbrev pub broker : ℤ → ℤ → ℤ → ℤ → List ℤ → List ℤ
 broker cash due lots book rest = account (pos 0) cash (pos 0) (pos 0) (pos 0) due lots book rest
 
@@ -37,11 +37,11 @@ holding c = ledger (pos 0) (pos 0) (pos 1502500) (broker c (pos 0) (pos 0) (pos 
 abbrev pub short : List ℤ
 short = ledger (pos 0) (pos 0) (pos 1502500) (account (pos 0) (pos 80000) (pos 0) (pos 0) (pos 600000) (negsuc 99999) (pos 0) (pos 0) (provider (pos 0) (pos 0) (pos 0) (pos 0) []))
 
--- R8 of 01 but for its due 1: F, cash 1,000,000, LG value 990,000, margin 600,000, due 0 -100,000
-abbrev pub lettered : List ℤ
-lettered = ledger (pos 0) (pos 0) (pos 1502500) (account (pos 0) (pos 1000000) (pos 1000000) (pos 1000000) (pos 600000) (negsuc 99999) (pos 0) (pos 0) (provider (pos 0) (pos 0) (pos 0) (pos 0) []))
+-- R8 of 01 with a smaller guarantee: F, cash 1,000,000, LG value 495,000, margin 600,000, dues -100,000, 50,000, 0
+abbrev pub withGuarantee : List ℤ
+withGuarantee = ledger (pos 0) (pos 0) (pos 1502500) (pos 0 ∷ pos 1000000 ∷ pos 500000 ∷ pos 500000 ∷ pos 600000 ∷ negsuc 99999 ∷ pos 50000 ∷ pos 0 ∷ pos 0 ∷ pos 0 ∷ provider (pos 0) (pos 0) (pos 0) (pos 0) [])
 
--- F, cash -100,000, no margin, due 0 50,000: required margin is -50,000
+-- F, cash -100,000, no initial margin, due 0 50,000: required margin is -50,000
 abbrev pub overdrawn : List ℤ
 overdrawn = ledger (pos 0) (pos 0) (pos 1502500) (broker (negsuc 99999) (pos 50000) (pos 0) (pos 0) (provider (pos 0) (pos 0) (pos 0) (pos 0) []))
 

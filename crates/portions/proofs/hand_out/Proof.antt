@@ -13,13 +13,13 @@ use Rattle.whole.specs.Counting.{one-if}
 use Rattle.whole.specs.Listed.{filled, filled-none, filled-next, filled-step, filled-all}
 use Rattle.whole.specs.Signs.{came}
 use Rattle.whole.specs.Reps.{reads}
-use Rattle.portions.specs.Share.{ofMember, comes}
+use Rattle.portions.specs.Share.{ofMember, comesBefore}
 use Rattle.portions.proofs.hand_out.Statement.{statement}
 use Rattle.portions.proofs.hand_out.Tie as tie
 
 -- what member k has afterwards
 abbrev after : ℕ → ℕ → List ℕ → List ℤ → ℕ → ℤ
-after last owner remainders out k = getD out k (pos 0) +ℤ pos (one-if (not (comes last owner (ofMember remainders k) k)))
+after last owner remainders out k = getD out k (pos 0) +ℤ pos (one-if (not (comesBefore last owner (ofMember remainders k) k)))
 
 abbrev Inv-loop : tie.InvT-loop
 Inv-loop last owner remainders out₀ i₀ out i = (i ≤ length out₀) × (length out ≡ length out₀) × (out ≡ filled i (after last owner remainders out₀) out₀)

@@ -1,4 +1,4 @@
--- `narrow` meets its contract: a member outside the two tells nothing new, and how many are ahead of one between them says on which side he is.
+-- `narrow` meets its contract: a member outside the two tells nothing new, and how many come before one between them says on which side he is.
 -- Assumes nothing.
 use borrow.Author.Needs.{needs}
 use Rattle.whole.specs.Tests.{fails, holds}
@@ -24,20 +24,20 @@ comes-before-requires-2 c κs = search needs
 returns-2 : tie.Need-returns-2
 returns-2 c = let s = c .before .before .before .before .before .before in late (s .pre .1 .0) (s .pre .1 .1 .1) (fails (c .before .comes-before2 .ensures) (c .if2 .taken))
 
-ahead-of-requires : tie.Need-ahead-of-requires
-ahead-of-requires c κs = search needs
+how-many-before-requires : tie.Need-how-many-before-requires
+how-many-before-requires c κs = search needs
 
 returns-3 : tie.Need-returns-3
 returns-3 c =
     let f = c .before .before .before .before in
     let s = f .before .before .before .before in
-    let p = c .before .ahead-of .ensures in
+    let p = c .before .how-many-before .ensures in
     owns (s .pre .1 .0) (s .pre .1 .1 .1) (holds (f .before .comes-before .ensures) (f .if1 .left)) (rw p at (c .if3 .taken))
 
 returns-4 : tie.Need-returns-4
 returns-4 c =
     let s = c .before .before .before .before .before .before .before .before in
-    let p = c .before .ahead-of .ensures in
+    let p = c .before .how-many-before .ensures in
     lacks (s .pre .1 .0) (s .pre .1 .1 .1) (rw p at (c .if3 .left))
 
 pub narrow-spec : {M : Type 1} → statement M
@@ -50,6 +50,6 @@ narrow-spec =
     returns
     comes-before-requires-2
     returns-2
-    ahead-of-requires
+    how-many-before-requires
     returns-3
     returns-4)

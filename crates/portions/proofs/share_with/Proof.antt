@@ -10,9 +10,9 @@ use lib.ListN.{length, getD}
 use Rattle.whole.specs.Counting.{total, one-if, listed}
 use Rattle.whole.specs.Listed.{each-of, length-listed, getD-listed, listed-same, filled, length-filled, getD-filled}
 use Rattle.whole.specs.Reps.{Each}
-use Rattle.portions.specs.Share.{ofMember, comes, floorOf, remainderOf, left, shareOf}
+use Rattle.portions.specs.Share.{ofMember, comesBefore, floorOf, remainderOf, left, shareOf}
 use Rattle.portions.specs.Bounds.{most-amount}
-use Rattle.portions.specs.Order.{ahead-same}
+use Rattle.portions.specs.Order.{many-before-same}
 use Rattle.portions.specs.Cut.{Cuts}
 use Rattle.portions.specs.ShareLaws.{floor-most, rem-lt, share-is}
 use Rattle.portions.proofs.share_with.Statement.{statement}
@@ -38,13 +38,13 @@ module _ (n : ℕ) (w : ℕ → ℕ) (amount : ℕ) (some : 0 < total n w) where
 
     -- with the yen that are left the floors are the shares
     shared : (yen x j : ℕ) → yen ≡ left n w amount → Cuts n (ofMember after) yen x j → (one two : List ℤ) → one ≡ floors →
-        two ≡ listed (length one) (λ i. getD one i (pos 0) +ℤ pos (one-if (not (comes x j (ofMember after i) i)))) →
+        two ≡ listed (length one) (λ i. getD one i (pos 0) +ℤ pos (one-if (not (comesBefore x j (ofMember after i) i)))) →
         two ≡ listed n (λ i. pos (shareOf n w amount i))
     shared yen x j y c one two f h = h ∙ rw (f, length-listed n (λ i. pos (floorOf n w amount i))) (listed-same n _ _ word)
       where
-        word : (i : ℕ) → i < n → getD floors i (pos 0) +ℤ pos (one-if (not (comes x j (ofMember after i) i))) ≡ pos (shareOf n w amount i)
+        word : (i : ℕ) → i < n → getD floors i (pos 0) +ℤ pos (one-if (not (comesBefore x j (ofMember after i) i))) ≡ pos (shareOf n w amount i)
         word i b =
-            rw (getD-listed n (λ k. pos (floorOf n w amount k)) (pos 0) i b, ← c .parts i b, ahead-same n (ofMember after) (remainderOf n w amount) remainder i b, y, share-is n w amount some i) refl
+            rw (getD-listed n (λ k. pos (floorOf n w amount k)) (pos 0) i b, ← c .parts i b, many-before-same n (ofMember after) (remainderOf n w amount) remainder i b, y, share-is n w amount some i) refl
 
 floors-requires : tie.Need-floors-requires
 floors-requires c κs = search needs

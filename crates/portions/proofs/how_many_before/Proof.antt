@@ -1,4 +1,4 @@
--- `ahead_of` meets its contract: of the members passed, as many come before i as were counted. Assumes nothing.
+-- `how_many_before` meets its contract: of the members passed, as many come before i as were counted. Assumes nothing.
 use mathlib.Core.Path.{_≡_, refl}
 use Prim.Native.Nat.{_-_, _≤_, zero-le}
 use native.Mathlib.Omega.{arith}
@@ -7,15 +7,15 @@ use mir.Val.{boolByte}
 use borrow.Author.Needs.{needs}
 use Rattle.whole.specs.Counting.{howMany, one-if}
 use Rattle.whole.specs.CountingLaws.{total-step, one-if-most}
-use Rattle.portions.specs.Share.{ofMember, before, aheadOf}
-use Rattle.portions.proofs.ahead_of.Statement.{statement}
-use Rattle.portions.proofs.ahead_of.Tie as tie
+use Rattle.portions.specs.Share.{ofMember, before, howManyBefore}
+use Rattle.portions.proofs.how_many_before.Statement.{statement}
+use Rattle.portions.proofs.how_many_before.Tie as tie
 
 abbrev Inv-loop : tie.InvT-loop
-Inv-loop remainders n i own ahead₀ j₀ ahead j = (j ≤ n) × (own ≡ ofMember remainders i) × (ahead ≤ j) × (ahead ≡ howMany j (λ k. before (ofMember remainders) k i))
+Inv-loop remainders n i own many₀ j₀ many j = (j ≤ n) × (own ≡ ofMember remainders i) × (many ≤ j) × (many ≡ howMany j (λ k. before (ofMember remainders) k i))
 
 abbrev μ-loop : tie.MeasureT-loop
-μ-loop remainders n i own ahead₀ j₀ ahead j = n - j
+μ-loop remainders n i own many₀ j₀ many j = n - j
 
 mul-own : tie.Need-mul-own Inv-loop μ-loop
 mul-own c = search needs
@@ -35,8 +35,8 @@ shared-slice-read-comes-before c = omega arith
 comes-before-requires : tie.Need-comes-before-requires Inv-loop μ-loop
 comes-before-requires c κs = search needs
 
-cast-ahead : tie.Need-cast-ahead Inv-loop μ-loop
-cast-ahead c = tt
+cast-many : tie.Need-cast-many Inv-loop μ-loop
+cast-many c = tt
 
 -- what the turn counts
 counted : (c : tie.After-comes-before Inv-loop μ-loop) →
@@ -49,8 +49,8 @@ counted c = rw (← c .comes-before .ensures) (is-one-if (c .comes-before .resul
     is-one-if true = refl
     is-one-if false = refl
 
-add-ahead : tie.Need-add-ahead Inv-loop μ-loop
-add-ahead c =
+add-many : tie.Need-add-many Inv-loop μ-loop
+add-many c =
     let a = c .before .before .before .before .before .before .args in
     omega (arith, counted c, one-if-most (before (ofMember (a .remainders .now)) (c .before .before .before .loop .j) (a .i)))
 
@@ -65,17 +65,17 @@ loop-again c =
     let a = c .before .before .before .before .before .before .args in
     let l = c .before .before .before .loop in
     let e = counted c in
-    (omega arith, refl, omega (arith, e, one-if-most (before (ofMember (a .remainders .now)) (l .j) (a .i))), total-step (l .j) (λ k. one-if (before (ofMember (a .remainders .now)) k (a .i))) (l .ahead) _ (l .inv .3) e)
+    (omega arith, refl, omega (arith, e, one-if-most (before (ofMember (a .remainders .now)) (l .j) (a .i))), total-step (l .j) (λ k. one-if (before (ofMember (a .remainders .now)) k (a .i))) (l .many) _ (l .inv .3) e)
 
 returns : tie.Need-returns Inv-loop μ-loop
-unfolding aheadOf
+unfolding howManyBefore
 returns c =
     let l = c .before .loop in
     let n : l .j ≡ c .before .before .before .before .args .n = omega arith in
     rw n at (l .inv .3)
 
-pub ahead-of-spec : {M : Type 1} → statement M
-ahead-of-spec =
+pub how-many-before-spec : {M : Type 1} → statement M
+how-many-before-spec =
     tie.close
     (tie.spec
     Inv-loop
@@ -86,8 +86,8 @@ ahead-of-spec =
     mul-comes-before
     shared-slice-read-comes-before
     comes-before-requires
-    cast-ahead
-    add-ahead
+    cast-many
+    add-many
     add-j
     loop-less
     loop-again
