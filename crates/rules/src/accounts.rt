@@ -53,7 +53,7 @@ pub fn gross_ok(account: Account) -> bool
 }
 
 // The highest guarantee and cap of an account: an L has none.
-fn guarantee_limit(account: Account) -> i64
+pub fn guarantee_limit(account: Account) -> i64
     ensures { λ r. ⌜ r ≡ guaranteeLimit account ⌝ }
 {
     if is_broker(account) {

@@ -4,7 +4,7 @@ use mathlib.Core.Logic.{_≢_}
 use mathlib.Core.List.{List}
 use mathlib.Core.Bool.{true, _&&_}
 use borrow.Author.Tests.{ne-eqb, eqb-false}
-use Prim.Native.Nat.{ℕ, suc, _+_, _-_, _<_, _≤_}
+use Prim.Native.Nat.{ℕ, suc, _+_, _-_, _*_, _<_, _≤_}
 use native.Mathlib.Omega.{arith}
 use native.Mathlib.Numerals.{add-one}
 use lib.Dec.{eqb}
@@ -13,12 +13,12 @@ use Rattle.whole.specs.Number.{within, between, is}
 use Rattle.whole.specs.Counting.{all, sum}
 use Rattle.whole.specs.Tests.{both, within-true}
 use Rattle.whole.specs.Whole.{or-yes, or-holds}
-use Rattle.whole.specs.CountingLaws.{all-at, all-is}
-use Rattle.rules.specs.Sizes.{mostHouse, mostGross}
+use Rattle.whole.specs.CountingLaws.{all-at, all-is, sum-abs}
+use Rattle.rules.specs.Sizes.{mostHouse, mostGross, mostLots, mostBook}
 use Rattle.rules.specs.Account.{accountOk}
 use Rattle.rules.specs.AccountLaws.{account-facts}
 use Rattle.places.specs.declared.Shape.{Shape}
-use Rattle.places.specs.Place.{View, Layout, Put, get, puts, house, phase, due, lots}
+use Rattle.places.specs.Place.{View, Layout, Put, get, puts, house, phase, due, productKind, lots, book}
 use Rattle.places.specs.Act.{shapeOf}
 use Rattle.places.specs.ActLaws.{LedgerBy, places-ok}
 use Rattle.places.specs.Footprint.{Footprint, Inside, sound-kept}
@@ -46,6 +46,12 @@ pub begun : (s : Shape) (g : View) → 1 ≤ turn g → turn g ≤ s .n + 1 → 
 begun s g h i =
     let e : s .n - (turn g - 1) ≡ s .n + 1 - turn g = omega arith in
     rw (e, ne-eqb (turn g) 0 (λ z. omega arith))
+
+-- the lots of the accounts before a, each in range, add to a number in range
+pub lots-in : (g : View) (j a : ℕ) → all a (heldOk g j) ≡ true → natAbs (sum a (λ i. g (lots i j))) ≤ a * mostLots
+lots-in g j a e =
+    sum-abs mostLots a (λ i. g (lots i j))
+    (λ i k. within-true mostLots (g (lots i j)) (both (within mostLots (g (lots i j))) (within (mostBook (g (productKind j))) (g (book i j))) (all-at a (heldOk g j) e i k) .0))
 
 pub record Facts (s : Shape) (g : View) : Type 0 where
   pub house-in : within mostHouse (g house) ≡ true

@@ -57,7 +57,7 @@ fn cross_pair(words: &[i64], s: Shape, j: usize) -> bool
         == whole::nat_abs(places::prod_word(words, s, j, places::QUOTE)))
 }
 
-fn pair_ok(words: &[i64], s: Shape, j: usize) -> bool
+pub fn pair_ok(words: &[i64], s: Shape, j: usize) -> bool
     requires { ⌜ Sized s (now words) ⌝ }
     requires { ⌜ j < s .p ⌝ }
     ensures { λ r. ⌜ r ≡ S.pairOk (get byAccount s (now (words .entry))) j ⌝ }

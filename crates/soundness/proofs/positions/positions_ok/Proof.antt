@@ -1,25 +1,26 @@
 -- `positions_ok` meets its contract: the positions of the accounts before a passed, and `sum` is the sum of their lots. Assumes nothing.
-use Prim.Native.Nat.{ℕ, _+_, _-_, _*_, _≤_}
+use Prim.Native.Nat.{ℕ, _+_, _-_, _≤_}
 use native.Mathlib.Nat.{mul-le-mul-right}
 use native.Mathlib.Numerals.{add-one}
 use native.Mathlib.Omega.{arith}
 use mathlib.Core.Path.{_≡_, refl, sym, ap, ap₂, _∙_}
 use mathlib.Core.Bool.{true, _&&_}
 use mathlib.Core.List.{List}
-use lib.IntN.{ℤ, natAbs, _+ℤ_}
+use lib.IntN.{ℤ, _+ℤ_}
 use mir.Syntax.{w64}
 use mir.Val.{SFits, toZ, ofZ}
 use Rattle.whole.specs.Number.{within, is}
 use Rattle.whole.specs.Counting.{all, sum}
-use Rattle.whole.specs.CountingLaws.{all-at, all-fails, all-more, sum-abs}
-use Rattle.whole.specs.Tests.{both, holds, fails, within-true}
+use Rattle.whole.specs.CountingLaws.{all-fails, all-more}
+use Rattle.whole.specs.Tests.{holds, fails}
 use Rattle.whole.specs.Signs.{arg, came}
 use Rattle.whole.specs.Reps.{small}
 use Rattle.rules.specs.Sizes.{mostLots, mostBook}
 use Rattle.places.specs.declared.Shape.{Shape}
-use Rattle.places.specs.Place.{View, get, productKind, lots, book}
+use Rattle.places.specs.Place.{View, get, lots}
 use Rattle.places.specs.ByAccount.{byAccount}
 use Rattle.soundness.specs.Sound.{heldOk}
+use Rattle.soundness.specs.SoundLaws.{lots-in}
 use Rattle.soundness.proofs.positions.positions_ok.Statement.{statement}
 use Rattle.soundness.proofs.positions.positions_ok.Tie as tie
 
@@ -35,16 +36,6 @@ abbrev μ-loop : tie.MeasureT-loop
 
 abbrev g : tie.Start Inv-loop μ-loop → View
 g s = get byAccount (s .args .s) (s .args .words .now)
-
--- the positions before a, tested; their lots and their sum
-module _ (s : tie.Start Inv-loop μ-loop) (a : ℕ) (passed : all a (heldOk (g s) (s .args .j)) ≡ true) where
-  abbrev ofAccount : ℕ → ℤ
-  ofAccount = lotsOf (s .args .words .now) (s .args .s) (s .args .j)
-
-  sum-in : natAbs (sum a ofAccount) ≤ a * mostLots
-  sum-in =
-      sum-abs mostLots a ofAccount
-      (λ i k. within-true mostLots (ofAccount i) (both (within mostLots (ofAccount i)) (within (mostBook (g s (productKind (s .args .j)))) (g s (book i (s .args .j)))) (all-at a (heldOk (g s) (s .args .j)) passed i k) .0))
 
 -- what the test of the position of a says
 tested : (c : tie.After-held-in Inv-loop μ-loop) → let l = c .before .before .before .before in let s = l .before .before .before in c .held-in .result ≡ heldOk (g s) (s .args .j) (l .loop .a)
@@ -68,7 +59,7 @@ module _ (c : tie.Else1 Inv-loop μ-loop) where
   abbrev word : ℤ
   word = c .before .before .before .held-word .result
 
-  next-is : toZ w64 (l .loop .sum) +ℤ toZ w64 (ofZ w64 word) ≡ sum (l .loop .a + 1) (ofAccount s (l .loop .a + 1) passed)
+  next-is : toZ w64 (l .loop .sum) +ℤ toZ w64 (ofZ w64 word) ≡ sum (l .loop .a + 1) (lotsOf (s .args .words .now) (s .args .s) (s .args .j))
   next-is =
       let x = c .before .before .before .held-word in
       ap₂ _+ℤ_ (l .loop .inv .2) (came (x .result) (x .ok) (x .ensures))
@@ -76,9 +67,9 @@ module _ (c : tie.Else1 Inv-loop μ-loop) where
 
   fits : SFits w64 (toZ w64 (l .loop .sum) +ℤ toZ w64 (ofZ w64 word))
   fits =
-      let h = sum-in s (l .loop .a + 1) passed in
+      let h = lots-in (g s) (s .args .j) (l .loop .a + 1) passed in
       let k : l .loop .a + 1 ≤ 64 = omega arith in
-      rw next-is (small (sum (l .loop .a + 1) (ofAccount s (l .loop .a + 1) passed)) 64000000 (omega (arith, mul-le-mul-right mostLots k)) (omega arith))
+      rw next-is (small (sum (l .loop .a + 1) (lotsOf (s .args .words .now) (s .args .s) (s .args .j))) 64000000 (omega (arith, mul-le-mul-right mostLots k)) (omega arith))
 
 prod-word-requires : tie.Need-prod-word-requires Inv-loop μ-loop
 prod-word-requires c κs = (c .pre .0, (c .pre .1, omega arith))
