@@ -3,7 +3,6 @@ use mathlib.Core.Path.{_≡_, refl, sym, _∙_, ap, subst}
 use mathlib.Core.Bool.{Bool, true, false, cond}
 use mathlib.Core.List.{List, [], _∷_, _++_}
 use Prim.Native.Nat.{ℕ, zero, suc, _+_, _*_, _≤_, _<_}
-use native.Mathlib.Nat.{not-suc-le-zero}
 use native.Mathlib.Omega.{arith}
 use borrow.Author.Tests.{eq-eqb, ne-eqb, lt-ltb, le-ltb}
 use lib.Dec.{eqb, ltb}
@@ -27,11 +26,6 @@ use Rattle.day.specs.Sheet.{replyLine, accountNumbers, accountsPart, hou
 use Rattle.dayfile.specs.declared.Contents.{Contents}
 use Rattle.rules.specs.declared.Reply.{Reply}
 use Rattle.dayfile.specs.declared.Bodies.{Bodies}
-
-pub take-replicate : {X : Type 0} (k n : ℕ) (a : X) → k ≤ n → take k (replicate n a) ≡ replicate k a
-take-replicate zero n a h = refl
-take-replicate (suc k) zero a h = absurd (not-suc-le-zero h)
-take-replicate (suc k) (suc n) a h = ap (λ (l : List _). a ∷ l) (take-replicate k n a (omega arith))
 
 -- ---- lengths
 house-length : (s : Shape) (w : List ℤ) → length (housePart s w) ≤ 28

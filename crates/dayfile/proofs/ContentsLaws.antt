@@ -1,16 +1,20 @@
 -- The counts of a table of contents are small, and so is its bad line; and what makes a table. Assumes nothing.
-use mathlib.Core.Path.{_≡_}
+use mathlib.Core.Path.{_≡_, refl, ap, _∙_}
 use mathlib.Core.Bool.{Bool, true, false, cond}
 use mathlib.Core.List.{List, [], _∷_}
-use Prim.Native.Nat.{ℕ, suc, _+_, _≤_}
+use Prim.Native.Nat.{ℕ, zero, suc, _+_, _≤_}
+use native.Mathlib.Nat.{not-suc-le-zero}
 use native.Mathlib.Omega.{arith}
 use lib.Dec.{eqb}
-use lib.ListN.{length}
-use Rattle.places.specs.Act.{mostAccounts, mostProducts}
+use lib.IntN.{ℤ, pos}
+use lib.ListN.{length, take, replicate, length-replicate}
+use Rattle.places.specs.Act.{mostAccounts, mostProducts, mostWords}
+use Rattle.places.specs.Place.{wordsOf}
+use Rattle.places.specs.ByAccountLaws.{words-most}
 use Rattle.lines.specs.Bytes.{bytes}
 use Rattle.lines.specs.Lines.{lost, lineFeed, past, fieldAt, firstLost}
 use Rattle.dayfile.specs.InsideDayfile.{Modest}
-use Rattle.dayfile.specs.Table.{mostPositions, mostCalls, countLine, pastHeader, productsCount, accountsCount, positionsCount, callsCount, pastEnd, tableOf, contentsOf}
+use Rattle.dayfile.specs.Table.{mostPositions, mostCalls, countLine, pastHeader, productsCount, accountsCount, positionsCount, callsCount, pastEnd, tableOf, contentsOf, ledgerShape}
 use Rattle.dayfile.specs.declared.Counted.{Counted}
 use Rattle.dayfile.specs.declared.Contents.{Contents}
 use Rattle.dayfile.proofs.DayLaws.{count-most}
@@ -47,3 +51,17 @@ contents-modest text =
 pub contents-are : (text : List ℕ) (first : ℕ) (p n m c : Counted) (end : ℕ) (t : Contents) → first ≡ pastHeader text 0 → p ≡ productsCount text first → n ≡ accountsCount text (p .next) → m ≡ positionsCount text (n .next) → c ≡ callsCount text (m .next) → end ≡ pastEnd text (c .next) → t ≡ tableOf first p n m c end → t ≡ contentsOf text
 unfolding contentsOf
 contents-are text first p n m c end t e1 e2 e3 e4 e5 e6 e7 = rw (e7, e6, e5, e4, e3, e2, e1)
+
+-- ---- the words of the ledger are a first part of words for the largest, all 0
+
+take-replicate : {X : Type 0} (k n : ℕ) (a : X) → k ≤ n → take k (replicate n a) ≡ replicate k a
+take-replicate zero n a h = refl
+take-replicate (suc k) zero a h = absurd (not-suc-le-zero h)
+take-replicate (suc k) (suc n) a h = ap (λ (l : List _). a ∷ l) (take-replicate k n a (omega arith))
+
+pub first-words : (c : Contents) → Modest c → (W : List ℤ) → W ≡ replicate mostWords (pos 0) → (len : ℕ) → len ≡ wordsOf (ledgerShape c)
+    → (len ≤ length W) × (take len W ≡ replicate (wordsOf (ledgerShape c)) (pos 0))
+first-words c m W z len e =
+    let few : len ≤ mostWords = omega (arith, e, words-most (ledgerShape c) (m .accounts-few) (m .products-few)) in
+    let long = ap length z ∙ length-replicate mostWords (pos 0) in
+    (omega (arith, few, long), ap (take len) z ∙ take-replicate len mostWords (pos 0) few ∙ ap (λ (k : ℕ). replicate k (pos 0)) e)

@@ -1,265 +1,18 @@
-// What is wrong with a bad text, in plain words for whoever wrote it. The sheet says only the line (01); `explain` reads that line again and
-// says what is the matter with it. It is proved to be safe, to end, and to keep within the bytes that it is lent; what it says is tried by
-// the program `texts`.
-use dayfile::Contents;
-use faults::Fault;
+// What a person is told beside the sheet, in plain words on standard error: of a bad text what is wrong with it and what to write instead, of a
+// good one which calls were refused and why. It is read off the text and its sheet, which say what is bad or refused (01); nothing here decides that.
+// Proved to be safe, to end, and to keep within the bytes that it is lent; what it says is tried by the program `texts`.
+use faults::marks;
+use faults::say;
 use lines::LONGEST;
 use lines::LOST;
-use lines::Numeral;
-ghost use mathlib.Core.Path.{_≡_};
-ghost use Prim.Native.Nat.{_+_, _≤_, _<_};
+ghost use Prim.Native.Nat.{_<_, _≤_};
 ghost use lib.ListN.{length};
-ghost use Rattle.places.specs.Act.{mostProducts};
-ghost use Rattle.dayfile.specs.InsideDayfile.{Modest};
 
-// The longest explanation.
-const ROOM: usize = 512;
-
-// What is the matter, and with which figure of the line, counted from 1; 0: with none of them.
-struct Finding {
-    fault: Fault,
-    figure: usize,
-}
-
-fn about_line(fault: Fault) -> Finding {
-    Finding { fault, figure: 0 }
-}
-
-// ---- numbers
-
-fn is_digit(b: u8) -> bool {
-    b >= b'0' && b <= b'9'
-}
-
-// Why no number can be read that is a minus, a 0 and a byte.
-fn zero_fault(next: u8) -> Fault {
-    if is_digit(next) {
-        return Fault::LeadingZero;
-    }
-    Fault::MinusZero
-}
-
-// Why no number can be read behind a minus.
-fn minus_fault(text: &[u8], at: usize) -> Fault {
-    if at >= text.len() {
-        return Fault::NotDigits;
-    }
-    let lead = text[at];
-    if lead == b'0' {
-        return zero_fault(lines::byte_at(text, at + 1));
-    }
-    if is_digit(lead) {
-        return Fault::TooLarge;
-    }
-    Fault::NotDigits
-}
-
-// Why no number can be read at a place that lies within the text.
-fn number_fault(text: &[u8], at: usize) -> Fault
-    requires { ⌜ at < length (now text) ⌝ }
-{
-    let first = text[at];
-    if first == b'-' {
-        return minus_fault(text, at + 1);
-    }
-    if first == b'+' {
-        return Fault::Plus;
-    }
-    if first == b'0' {
-        return Fault::LeadingZero;
-    }
-    if is_digit(first) {
-        return Fault::TooLarge;
-    }
-    if first == b' ' || first == b'\n' {
-        return Fault::Empty;
-    }
-    Fault::NotDigits
-}
-
-// Why a number that ends at a place is not closed as its field has to be.
-fn close_fault(text: &[u8], end: usize, close: u8) -> Fault {
-    let b = lines::byte_at(text, end);
-    if b == b'\n' {
-        return Fault::TooFew;
-    }
-    if b == b' ' && close == b'\n' {
-        return Fault::TooMany;
-    }
-    Fault::NotDigits
-}
-
-// Why a field can not be read.
-fn field_fault(text: &[u8], at: usize, close: u8) -> Fault {
-    if at >= text.len() {
-        return Fault::TooFew;
-    }
-    let n = lines::number_at(text, at);
-    match n {
-        Numeral::Bad => number_fault(text, at),
-        Numeral::Value(_, end) => close_fault(text, end, close),
-    }
-}
-
-// What is the matter with `count` figures up to the line's end.
-fn figures_finding(text: &[u8], from: usize, count: usize) -> Finding {
-    let mut at = from;
-    let mut left = count;
-    while left > 0 {
-        left -= 1;
-        let close = lines::close_of(left);
-        let f = lines::field_at(text, at, close);
-        let next = f.next;
-        if next == LOST {
-            return Finding {
-                fault: field_fault(text, at, close),
-                figure: count - left,
-            };
-        }
-        at = next;
-    }
-    about_line(Fault::Other)
-}
-
-// ---- lines
-
-// A line of the table of contents: a word and its count.
-fn count_finding(text: &[u8], at: usize, word: &[u8], wrong: Fault) -> Finding {
-    let next = lines::past_word(text, at, word);
-    if next == LOST {
-        return about_line(wrong);
-    }
-    let f = lines::field_at(text, next, b'\n');
-    if f.next == LOST {
-        return Finding {
-            fault: field_fault(text, next, b'\n'),
-            figure: 1,
-        };
-    }
-    about_line(Fault::CountRange)
-}
-
-fn table_finding(text: &[u8], at: usize, line: usize) -> Finding {
-    if line == 1 {
-        return about_line(Fault::NotFxday);
-    }
-    if line == 2 {
-        return count_finding(text, at, b"PRODUCTS ", Fault::NotProducts);
-    }
-    if line == 3 {
-        return count_finding(text, at, b"ACCOUNTS ", Fault::NotAccounts);
-    }
-    if line == 4 {
-        return count_finding(text, at, b"POSITIONS ", Fault::NotPositions);
-    }
-    if line == 5 {
-        return count_finding(text, at, b"CALLS ", Fault::NotCalls);
-    }
-    about_line(Fault::NotEnd)
-}
-
-// A line of one of two letters, each with its number of figures.
-fn letter_finding(
-    text: &[u8],
-    at: usize,
-    zeroth: &[u8],
-    k: usize,
-    first: &[u8],
-    m: usize,
-    wrong: Fault,
-) -> Finding {
-    let y = lines::past_word(text, at, zeroth);
-    if y != LOST {
-        return figures_finding(text, y, k);
-    }
-    let x = lines::past_word(text, at, first);
-    if x != LOST {
-        return figures_finding(text, x, m);
-    }
-    about_line(wrong)
-}
-
-// A position whose four figures can be read: one that is not there, or a repeat.
-fn place_finding(text: &[u8], at: usize, n: usize, p: usize) -> Finding {
-    let a = lines::field_at(text, at, b' ');
-    let account = a.value;
-    let next = a.next;
-    let j = lines::field_at(text, next, b' ');
-    let product = j.value;
-    if !whole::is_one_of(account, n) {
-        return Finding {
-            fault: Fault::NoAccount,
-            figure: 1,
-        };
-    }
-    if !whole::is_one_of(product, p) {
-        return Finding {
-            fault: Fault::NoProduct,
-            figure: 2,
-        };
-    }
-    about_line(Fault::Repeat)
-}
-
-fn position_finding(text: &[u8], at: usize, n: usize, p: usize) -> Finding {
-    let f = figures_finding(text, at, 4);
-    if f.figure > 0 {
-        return f;
-    }
-    place_finding(text, at, n, p)
-}
-
-// A call: its letter, then its figures. A letter that has none stands alone.
-fn call_finding(text: &[u8], at: usize, p: usize) -> Finding
-    requires { ⌜ p ≤ mostProducts ⌝ ∗ ⌜ at < length (now text) ⌝ }
-{
-    let letter = text[at];
-    let k = dayfile::figures_of(p, letter);
-    if k > dayfile::MOST_FIGURES {
-        return about_line(Fault::CallLetter);
-    }
-    if k == 0 {
-        return about_line(Fault::Alone);
-    }
-    let from = lines::past_word(text, at + 1, b" ");
-    if from == LOST {
-        return about_line(Fault::NoSpace);
-    }
-    figures_finding(text, from, k)
-}
-
-// A line behind the table of contents, by its number there, from 0.
-fn body_finding(text: &[u8], c: Contents, at: usize, i: usize) -> Finding
-    requires { ⌜ Modest c ⌝ ∗ ⌜ at < length (now text) ⌝ }
-{
-    let p = c.products;
-    let n = c.accounts;
-    let m = c.positions;
-    let k = c.calls;
-    if i < p {
-        return letter_finding(text, at, b"Y ", 2, b"X ", 4, Fault::ProductLetter);
-    }
-    if i - p < n {
-        return letter_finding(
-            text,
-            at,
-            b"F ",
-            dayfile::ACCOUNT_FIGURES,
-            b"L ",
-            dayfile::ACCOUNT_FIGURES,
-            Fault::AccountLetter,
-        );
-    }
-    if i - p - n < m {
-        return position_finding(text, at, n, p);
-    }
-    if i - p - n - m < k {
-        return call_finding(text, at, p);
-    }
-    about_line(Fault::GoesOn)
-}
-
-// ---- the text
+mod bodies;
+mod refusals;
+mod sections;
+mod start;
+mod table;
 
 // How many line feeds are still to come, behind a byte.
 fn feeds_left(left: usize, b: u8) -> usize {
@@ -286,107 +39,114 @@ fn line_start(text: &[u8], line: usize) -> usize
     at
 }
 
-// Whether a line feed stands at a place or behind it.
-fn is_closed(text: &[u8], from: usize) -> bool {
-    let mut at = from;
-    while at < text.len() {
-        if text[at] == b'\n' {
-            return true;
-        }
-        at += 1;
+// Where the next line starts.
+fn next_line(text: &[u8], from: usize) -> usize
+    requires { ⌜ from < length (now text) ⌝ }
+    ensures { λ r. ⌜ (from < r) × (r ≤ length (now (text .entry))) ⌝ }
+{
+    let end = marks::line_end(text, from);
+    if end < text.len() {
+        return end + 1;
     }
-    false
+    end
 }
 
-// A line that is not there: one of the table of contents, or one that the table states.
-fn absent(text: &[u8], at: usize, line: usize) -> Finding {
-    if line < 7 {
-        return table_finding(text, at, line);
+// Whether a text is saved as UTF-16: a mark at its start, or a byte 0 beside its first letter.
+fn is_utf16(text: &[u8]) -> bool {
+    let a = lines::byte_at(text, 0);
+    let b = lines::byte_at(text, 1);
+    if a == 0xFF && b == 0xFE || a == 0xFE && b == 0xFF {
+        return true;
     }
-    about_line(Fault::Missing)
+    text.len() > 1 && (a == 0 || b == 0)
 }
 
-fn find(text: &[u8], line: usize) -> Finding {
+// How the file is saved, where it is not saved as plain text.
+fn tell_saved(text: &[u8], out: &mut [u8]) -> usize {
+    if is_utf16(text) {
+        return say::word(
+            out,
+            0,
+            b"line 1: the file is saved as UTF-16: save it as plain text, ASCII or UTF-8 without a byte order mark",
+        );
+    }
+    if lines::word_at(text, 0, b"\xEF\xBB\xBF") {
+        return say::word(
+            out,
+            0,
+            b"line 1: a byte order mark stands before FXDAY: save the file as UTF-8 without a byte order mark",
+        );
+    }
+    0
+}
+
+// A line that is there: its bytes, its end, what it has to be.
+fn tell_line(text: &[u8], at: usize, line: usize, out: &mut [u8]) -> usize
+    requires { ⌜ at ≤ length (now text) ⌝ }
+{
+    let bytes = marks::tell(text, at, line, out);
+    if bytes > 0 {
+        return bytes;
+    }
+    if marks::line_end(text, at) == text.len() {
+        let counts = [line];
+        return say::form(
+            out,
+            0,
+            b"line #: the last line does not end in a line feed: press Enter at its end",
+            &counts,
+            0,
+        );
+    }
+    if line < table::LINES + 1 {
+        return table::tell(text, at, line, out);
+    }
+    bodies::tell(text, at, line, out)
+}
+
+// What is wrong with the first bad line of a text.
+fn tell_bad(text: &[u8], line: usize, out: &mut [u8]) -> usize {
     if text.len() > LONGEST {
-        return about_line(Fault::TooLong);
+        return say::word(out, 0, b"the text is longer than 65536 bytes");
     }
     if line == 0 {
-        return about_line(Fault::Unsound);
+        return start::tell(text, out);
+    }
+    if text.len() == 0 {
+        return say::word(out, 0, b"line 1: the file is empty");
+    }
+    let saved = tell_saved(text, out);
+    if saved > 0 {
+        return saved;
     }
     let at = line_start(text, line);
-    if at == text.len() {
-        return absent(text, at, line);
+    if at < text.len() {
+        return tell_line(text, at, line, out);
     }
-    if !is_closed(text, at) {
-        return about_line(Fault::NoLineFeed);
+    if line < table::LINES + 1 {
+        return table::tell(text, at, line, out);
     }
-    if line < 7 {
-        return table_finding(text, at, line);
-    }
-    let c = dayfile::read_contents(text);
-    body_finding(text, c, at, line - 7)
+    bodies::tell_missing(text, line, out)
 }
 
-// A number and the byte behind it.
-fn put_number(out: &mut [u8], at: usize, n: usize, close: u8) -> usize
-    requires { ⌜ at + 22 ≤ length (now out) ⌝ }
-    ensures { λ r. ⌜ r ≤ at + 22 ⌝ }
-{
-    lines::put_count(out, at, n as u64, close)
-}
-
-// `line 7, figure 2: `, with what is known of the two.
-fn put_where(out: &mut [u8], line: usize, figure: usize) -> usize
-    requires { ⌜ 512 ≤ length (now out) ⌝ }
-    ensures { λ r. ⌜ r ≤ 100 ⌝ }
-{
-    if line == 0 {
-        return 0;
-    }
-    let a = lines::put_word(out, 0, b"line ");
-    if figure == 0 {
-        let b = put_number(out, a, line, b':');
-        return lines::put_word(out, b, b" ");
-    }
-    let b = put_number(out, a, line, b',');
-    let c = lines::put_word(out, b, b" figure ");
-    let d = put_number(out, c, figure, b':');
-    lines::put_word(out, d, b" ")
-}
-
-// The whole explanation.
-fn put_finding(out: &mut [u8], line: usize, figure: usize, fault: Fault) -> usize
-    requires { ⌜ 512 ≤ length (now out) ⌝ }
-    ensures { λ r. ⌜ r ≤ 512 ⌝ }
-{
-    let a = put_where(out, line, figure);
-    let b = faults::put_fault(out, a, fault);
-    lines::put_word(out, b, b"\n")
-}
-
-// What is wrong with the first bad line of a text, whose number the sheet gave, in a line of its own at the start of `out`; and its length.
-// 0, and `out` left alone, where `out` has less room than an explanation may take.
-pub fn explain(text: &[u8], line: usize, out: &mut [u8]) -> usize
+// The same, as a line of its own.
+fn tell_bad_line(text: &[u8], line: usize, out: &mut [u8]) -> usize
     ensures { λ r. ⌜ r ≤ length (now (out .exit)) ⌝ }
 {
-    if out.len() < ROOM {
-        return 0;
-    }
-    let f = find(text, line);
-    let fault = f.fault;
-    let figure = f.figure;
-    put_finding(out, line, figure, fault)
+    let end = tell_bad(text, line, out);
+    say::word(out, end, b"\n")
 }
 
-// The same by the sheet of the text; 0, and `out` left alone, where the sheet is not that of a bad text.
-pub fn explain_bad(text: &[u8], sheet: &[u8], out: &mut [u8]) -> usize
+// What is to be told of a text, by its sheet, at the start of `out`; and its length, 0 where there is nothing to tell. What has no room is left out:
+// 512 bytes hold what is wrong with a bad text, and 262,144 every refused call of any.
+pub fn tell(text: &[u8], sheet: &[u8], out: &mut [u8]) -> usize
     ensures { λ r. ⌜ r ≤ length (now (out .exit)) ⌝ }
 {
     let at = lines::past_word(sheet, 0, b"BAD ");
     if at == LOST {
-        return 0;
+        return refusals::tell(text, sheet, out);
     }
     let bad = lines::field_at(sheet, at, b'\n');
     let line = whole::nat_abs(bad.value) as usize;
-    explain(text, line, out)
+    tell_bad_line(text, line, out)
 }

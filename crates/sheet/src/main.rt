@@ -1,6 +1,6 @@
 // The sheet program (01, "The day file and the sheet"): reads a day file from standard input, or from the file that its first argument
-// names, and prints the sheet on standard output. What is wrong with a bad text, and with a file that can not be read, it says on standard
-// error.
+// names, and prints the sheet on standard output. What is wrong with a bad text, which calls were refused, and why a file can not be read, it
+// says on standard error.
 use libc::STDERR_FILENO;
 use libc::STDIN_FILENO;
 use libc::STDOUT_FILENO;
@@ -32,10 +32,10 @@ fn read_text(fd: i32, text: &mut [u8]) -> Input
     Input { good: true, size }
 }
 
-// Says on standard error what is wrong with a text, where its sheet says that it is bad; else nothing.
-fn print_fault(text: &[u8], sheet: &[u8]) {
-    let mut words = [0u8; 512];
-    let size = plain::explain_bad(text, sheet, &mut words);
+// Says on standard error what is wrong with a bad text, or which calls of a good one were refused.
+fn print_words(text: &[u8], sheet: &[u8]) {
+    let mut words = [0u8; 262144];
+    let size = plain::tell(text, sheet, &mut words);
     io::write_all(STDERR_FILENO, &words[..size]);
 }
 
@@ -46,7 +46,7 @@ fn print_sheet(text: &[u8]) {
     if !io::write_all(STDOUT_FILENO, &out[..size]) {
         os::fail(b"standard output");
     }
-    print_fault(text, &out[..size]);
+    print_words(text, &out[..size]);
 }
 
 // Reads a text and prints its sheet. One byte more than a text may have is read, so that an overlong text is seen to be one.

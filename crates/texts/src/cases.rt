@@ -4,22 +4,8 @@
 ghost use Prim.Native.Nat.{_≤_, _<_};
 ghost use lib.ListN.{length};
 use crate::full::least;
-use crate::full::push;
-
-// The place of the line feed of a line, or the file's end.
-fn line_end(file: &[u8], from: usize) -> usize
-    requires { ⌜ from ≤ length (now file) ⌝ }
-    ensures { λ r. ⌜ (from ≤ r) × (r ≤ length (now (file .entry))) ⌝ }
-{
-    let mut at = from;
-    while at < file.len() {
-        if file[at] == b'\n' {
-            return at;
-        }
-        at += 1;
-    }
-    at
-}
+use faults::marks::line_end;
+use faults::say;
 
 // Where the next line starts.
 pub fn next_line(file: &[u8], from: usize) -> usize
@@ -51,12 +37,12 @@ pub fn find(file: &[u8], from: usize, mark: u8) -> usize
 // What stands in a line behind its mark and a space, and what closes it.
 pub fn push_line(file: &[u8], from: usize, close: &[u8], out: &mut [u8], at: usize) -> usize
     requires { ⌜ from < length (now file) ⌝ }
-    ensures { λ r. ⌜ r ≤ length (now (out .entry)) ⌝ }
+    ensures { λ r. ⌜ r ≤ length (now (out .exit)) ⌝ }
 {
     let end = line_end(file, from);
     let start = least(end, from + 2);
-    let put = push(out, at, &file[start..end]);
-    push(out, put, close)
+    let put = say::word(out, at, &file[start..end]);
+    say::word(out, put, close)
 }
 
 // The same of every line with a mark between two lines, one after another.
@@ -70,7 +56,7 @@ pub fn push_lines(
     start: usize,
 ) -> usize
     requires { ⌜ from ≤ length (now file) ⌝ ∗ ⌜ to ≤ length (now file) ⌝ ∗ ⌜ start ≤ length (now out) ⌝ }
-    ensures { λ r. ⌜ r ≤ length (now (out .entry)) ⌝ }
+    ensures { λ r. ⌜ r ≤ length (now (out .exit)) ⌝ }
 {
     let mut put = start;
     let mut at = find(file, from, mark);

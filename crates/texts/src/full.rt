@@ -2,21 +2,9 @@
 // is a step or a close that the phase forbids (7), so that each line of the sheet is known.
 ghost use Prim.Native.Nat.{_≤_};
 ghost use lib.ListN.{length};
+use faults::say;
 
-// A word at a place, where there is room for it; else the place of the list's end.
-pub fn push(out: &mut [u8], at: usize, word: &[u8]) -> usize
-    ensures { λ r. ⌜ r ≤ length (now (out .entry)) ⌝ }
-{
-    if at > out.len() {
-        return out.len();
-    }
-    if word.len() > out.len() - at {
-        return out.len();
-    }
-    lines::put_word(out, at, word)
-}
-
-// A number and the byte behind it, likewise.
+// A number and the byte behind it, where there is room; else the place of the list's end.
 fn push_number(out: &mut [u8], at: usize, n: usize, close: u8) -> usize {
     if at > out.len() {
         return out.len();
@@ -32,7 +20,7 @@ pub fn push_many(out: &mut [u8], from: usize, word: &[u8], count: usize) -> usiz
     let mut at = from;
     let mut left = count;
     while left > 0 {
-        at = push(out, at, word);
+        at = say::word(out, at, word);
         left -= 1;
     }
     at
@@ -48,9 +36,9 @@ pub fn least(a: usize, b: usize) -> usize
 fn push_position(out: &mut [u8], from: usize, a: usize, j: usize, wide: usize) -> usize {
     let at = push_number(out, from, a, b' ');
     let at2 = push_number(out, at, j, b' ');
-    let at3 = push(out, at2, b"0 1");
+    let at3 = say::word(out, at2, b"0 1");
     let at4 = push_many(out, at3, b"0", wide);
-    push(out, at4, b"\n")
+    say::word(out, at4, b"\n")
 }
 
 // All positions, of no lots; the text grows by `extra` bytes, 13 at most for each book.
@@ -72,9 +60,9 @@ fn push_closes(out: &mut [u8], from: usize, count: usize) -> usize {
     let mut at = from;
     let mut left = count;
     while left > 0 {
-        let letter = push(out, at, b"C");
+        let letter = say::word(out, at, b"C");
         let figures = push_many(out, letter, b" 1 1 1 0", 16);
-        at = push(out, figures, b"\n");
+        at = say::word(out, figures, b"\n");
         left -= 1;
     }
     at
@@ -82,7 +70,7 @@ fn push_closes(out: &mut [u8], from: usize, count: usize) -> usize {
 
 // The day's text: 380 closes and 620 steps.
 pub fn push_day(out: &mut [u8], extra: usize) -> usize {
-    let top = push(
+    let top = say::word(
         out,
         0,
         b"FXDAY\nPRODUCTS 16\nACCOUNTS 64\nPOSITIONS 1024\nCALLS 1000\nEND\n",
@@ -100,7 +88,7 @@ fn push_accounts(out: &mut [u8], from: usize) -> usize {
     let mut a = 0;
     while a < 64 {
         let number = push_number(out, at, a, b' ');
-        at = push(out, number, b"0 0 0 0 0 0 0\n");
+        at = say::word(out, number, b"0 0 0 0 0 0 0\n");
         a += 1;
     }
     at
@@ -108,8 +96,8 @@ fn push_accounts(out: &mut [u8], from: usize) -> usize {
 
 // The day's sheet.
 pub fn push_sheet(out: &mut [u8]) -> usize {
-    let top = push(out, 0, b"FXSHEET\n");
+    let top = say::word(out, 0, b"FXSHEET\n");
     let calls = push_many(out, top, b"7 0\n", 1000);
     let accounts = push_accounts(out, calls);
-    push(out, accounts, b"HOUSE 0\n")
+    say::word(out, accounts, b"HOUSE 0\n")
 }

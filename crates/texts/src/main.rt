@@ -1,6 +1,6 @@
-// Runs many texts through `day::sheet` and compares each sheet with the one expected, and what `plain` says of a bad text likewise: a line
-// for each kind of text, with how many texts it has and how many differ; then how many differ in all. The texts and their sheets are read
-// from standard input (`cases` says how); those of the largest day, and those with a carriage return, are made here.
+// Runs many texts through `day::sheet` and compares each sheet with the one expected, and what `plain` tells beside it likewise: a line
+// for each kind of text, with how many texts it has and how many differ; then how many differ in all. The texts, their sheets and what is told
+// beside them are read from standard input (`cases` says how); those of the largest day, and those saved by other habits, are made here.
 ghost use Prim.Native.Nat.{_≤_, _<_};
 ghost use lib.ListN.{length};
 use libc::STDIN_FILENO;
@@ -19,24 +19,18 @@ fn none() -> Tally {
     Tally { texts: 0, wrong: 0 }
 }
 
-// Whether the words about a text by its sheet are others than those expected, where any are.
-fn speaks_otherwise(text: &[u8], sheet: &[u8], expected: &[u8]) -> bool {
-    if expected.len() == 0 {
-        return false;
-    }
-    let mut words = [0u8; 512];
-    let size = plain::explain_bad(text, sheet, &mut words);
-    !check::same(&words[..size], expected)
-}
-
-// Whether the sheet of a text, or the words about it, are others than those expected.
-fn differs(text: &[u8], expected: &[u8], words: &[u8]) -> bool {
+// Whether the sheet of a text is another than the one expected.
+fn differs(text: &[u8], expected: &[u8]) -> bool {
     let mut out = [0u8; 65536];
     let size = day::sheet(text, &mut out);
-    if !check::same(&out[..size], expected) {
-        return true;
-    }
-    speaks_otherwise(text, expected, words)
+    !check::same(&out[..size], expected)
+}
+
+// Whether what is told beside the sheet is something else than expected.
+fn tells_otherwise(text: &[u8], sheet: &[u8], expected: &[u8]) -> bool {
+    let mut words = [0u8; 262144];
+    let size = plain::tell(text, sheet, &mut words);
+    !check::same(&words[..size], expected)
 }
 
 // One more; no kind has a million texts.
@@ -44,17 +38,25 @@ fn next(n: u64) -> u64 {
     if n < 1000000 { n + 1 } else { n }
 }
 
-// One text more.
-fn tried(t: Tally, text: &[u8], expected: &[u8], words: &[u8]) -> Tally {
+// One text more, that gave something else or not.
+fn counted(t: Tally, other: bool) -> Tally {
     let texts = next(t.texts);
     let wrong = t.wrong;
-    if differs(text, expected, words) {
+    if other {
         return Tally {
             texts,
             wrong: next(wrong),
         };
     }
     Tally { texts, wrong }
+}
+
+// One text more, with its sheet and what is told beside it.
+fn tried(t: Tally, text: &[u8], expected: &[u8], words: &[u8]) -> Tally {
+    if differs(text, expected) {
+        return counted(t, true);
+    }
+    counted(t, tells_otherwise(text, expected, words))
 }
 
 // Two tallies together.
@@ -92,7 +94,7 @@ fn case(t: Tally, file: &[u8], kind: usize, from: usize, to: usize) -> Tally
 {
     let mut text = [0u8; 4096];
     let mut sheet = [0u8; 4096];
-    let mut words = [0u8; 512];
+    let mut words = [0u8; 4096];
     let top = cases::push_lines(file, kind, to, b'*', b"\n", &mut text, 0);
     let lines = cases::push_lines(file, from, to, b'>', b"\n", &mut text, top);
     let size = cases::push_lines(file, from, to, b'|', b"", &mut text, lines);
@@ -140,10 +142,70 @@ fn kinds(file: &[u8]) -> Tally {
 
 // ---- the cases that are made
 
-// A carriage return is a byte like any other.
-fn returns() -> Tally {
-    let a = tried(none(), b"FXDAY\r\n", b"BAD 1\n", b"");
-    tried(a, b"FXDAY\nPRODUCTS 1\r\n", b"BAD 2\n", b"")
+// Files that were saved by other habits: their bytes could not stand in a file of cases. A carriage return is a byte like any other.
+fn saved_otherwise() -> Tally {
+    let a = tried(
+        none(),
+        b"FXDAY\r\n",
+        b"BAD 1\n",
+        b"line 1: a carriage return ends the line: save the file with Unix line ends, a line feed alone\n",
+    );
+    let b = tried(
+        a,
+        b"FXDAY\nPRODUCTS 1\r\n",
+        b"BAD 2\n",
+        b"line 2: a carriage return ends the line: save the file with Unix line ends, a line feed alone\n",
+    );
+    let c = tried(
+        b,
+        b"FXDAY\rPRODUCTS 1\r",
+        b"BAD 1\n",
+        b"line 1: a carriage return ends the line: save the file with Unix line ends, a line feed alone\n",
+    );
+    let d = tried(
+        c,
+        b"\xEF\xBB\xBFFXDAY\n",
+        b"BAD 1\n",
+        b"line 1: a byte order mark stands before FXDAY: save the file as UTF-8 without a byte order mark\n",
+    );
+    saved_wide(d)
+}
+
+// UTF-16, with its mark in either order of bytes, and without; and a byte that no text has.
+fn saved_wide(t: Tally) -> Tally {
+    let a = tried(
+        t,
+        b"\xFF\xFEF\x00X\x00",
+        b"BAD 1\n",
+        b"line 1: the file is saved as UTF-16: save it as plain text, ASCII or UTF-8 without a byte order mark\n",
+    );
+    let b = tried(
+        a,
+        b"\xFE\xFF\x00F\x00X",
+        b"BAD 1\n",
+        b"line 1: the file is saved as UTF-16: save it as plain text, ASCII or UTF-8 without a byte order mark\n",
+    );
+    let c = tried(
+        b,
+        b"F\x00X\x00D\x00",
+        b"BAD 1\n",
+        b"line 1: the file is saved as UTF-16: save it as plain text, ASCII or UTF-8 without a byte order mark\n",
+    );
+    tried(
+        c,
+        b"FXDAY\x07\n",
+        b"BAD 1\n",
+        b"line 1, column 6: a control character: take it away, or save the file as plain text\n",
+    )
+}
+
+// Whether the sheet of a text is another, or something has no room in what is told beside it: of the largest day every call is refused.
+fn differs_or_cut(text: &[u8], expected: &[u8]) -> bool {
+    if differs(text, expected) {
+        return true;
+    }
+    let mut words = [0u8; 262144];
+    plain::tell(text, expected, &mut words) == words.len()
 }
 
 // One text more: the first bytes of a list, and of a sheet.
@@ -154,7 +216,7 @@ fn first_bytes(t: Tally, text: &[u8], size: usize, expected: &[u8], end: usize) 
     if end > expected.len() {
         return t;
     }
-    tried(t, &text[..size], &expected[..end], b"")
+    counted(t, differs_or_cut(&text[..size], &expected[..end]))
 }
 
 // Texts of 65,536 bytes and of one more: of the largest day, and of one letter.
@@ -180,7 +242,7 @@ fn main() {
     let mut file = [0u8; 65536];
     let size = io::read_full(STDIN_FILENO, &mut file);
     let a = kinds(&file[..size]);
-    let b = told(a, b"carriage returns", returns());
+    let b = told(a, b"files saved otherwise", saved_otherwise());
     let c = told(b, b"longest texts", longest());
     told(none(), b"in all", c);
 }

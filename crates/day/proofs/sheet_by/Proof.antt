@@ -1,19 +1,17 @@
 -- `sheet_by` meets its contract: the counts are small, so that the words of the ledger are a first part of the words lent. Assumes nothing.
-use mathlib.Core.Path.{sym, _∙_, ap, subst}
+use mathlib.Core.Path.{_≡_, sym, _∙_, ap, subst}
 use Prim.Native.Nat.{ℕ, _+_, _≤_}
 use native.Mathlib.Omega.{arith}
 use lib.IntN.{pos}
-use lib.ListN.{length, take, replicate, length-replicate}
+use lib.ListN.{length, take, replicate}
 use lib.Seq.{sets, length-take-le}
-use Rattle.places.specs.Act.{mostWords}
-use Rattle.places.specs.ByAccountLaws.{words-most}
+use Rattle.places.specs.Place.{wordsOf}
 use Rattle.dayfile.specs.Day.{bodiesOf}
 use Rattle.dayfile.specs.InsideDayfile.{Modest}
 use Rattle.dayfile.specs.Table.{ledgerShape}
-use Rattle.dayfile.proofs.ContentsLaws.{contents-modest}
+use Rattle.dayfile.proofs.ContentsLaws.{contents-modest, first-words}
 use Rattle.calls.specs.Ledger.{theLedger}
 use Rattle.day.specs.Sheet.{daySheet}
-use Rattle.day.proofs.SheetLaws.{take-replicate}
 use Rattle.dayfile.specs.declared.Contents.{Contents}
 use borrow.Author.Needs.{needs}
 use Rattle.day.proofs.sheet_by.Statement.{statement}
@@ -30,13 +28,8 @@ module _ (c : tie.After-words-of) where
   abbrev len : ℕ
   len = c .words-of .result
 
-  few : len ≤ mostWords
-  few =
-      let m = modest (c .before) in
-      omega (arith, c .words-of .ensures, words-most (ledgerShape (c .before .read-contents .result)) (m .accounts-few) (m .products-few))
-
-  room : len ≤ length (lent .args .words .now)
-  room = let long = ap length (lent .pre .0) ∙ length-replicate mostWords (pos 0) in omega (arith, few, long)
+  words : (len ≤ length (lent .args .words .now)) × (take len (lent .args .words .now) ≡ replicate (wordsOf (ledgerShape (c .before .read-contents .result))) (pos 0))
+  words = first-words (c .before .read-contents .result) (modest (c .before)) (lent .args .words .now) (lent .pre .0) len (c .words-of .ensures)
 
 read-contents-requires : tie.Need-read-contents-requires
 read-contents-requires c κs = search needs
@@ -45,16 +38,13 @@ words-of-requires : tie.Need-words-of-requires
 words-of-requires c κs = let m = modest c in (m .accounts-few, m .products-few)
 
 slice-relend-prefix-day-sheet : tie.Need-slice-relend-prefix-day-sheet
-slice-relend-prefix-day-sheet c = room c
+slice-relend-prefix-day-sheet c = words c .0
 
 slice-aggregate-day-sheet : tie.Need-slice-aggregate-day-sheet
-slice-aggregate-day-sheet c = sym (length-take-le (len (c .before)) (lent (c .before) .args .words .now) (room (c .before)))
+slice-aggregate-day-sheet c = sym (length-take-le (len (c .before)) (lent (c .before) .args .words .now) (words (c .before) .0))
 
 day-sheet-requires : tie.Need-day-sheet-requires
-day-sheet-requires c κs =
-    let d = c .before .before in
-    let zeros = ap (take (len d)) (lent d .pre .0) ∙ take-replicate (len d) mostWords (pos 0) (few d) in
-    (modest (d .before), (zeros ∙ ap (λ (k : ℕ). replicate k (pos 0)) (d .words-of .ensures), lent d .pre .1))
+day-sheet-requires c κs = let d = c .before .before in (modest (d .before), (words d .1, lent d .pre .1))
 
 same-length : tie.Need-same-length
 same-length c = search needs

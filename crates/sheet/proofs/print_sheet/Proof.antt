@@ -33,11 +33,11 @@ fail-requires c κs = search needs
 array-share-prefix-out-2 : tie.Need-array-share-prefix-out-2
 array-share-prefix-out-2 c = answer-within (sheetOf theLedger (c .before .before .before .before .before .before .before .args .text .now)) (replicate 65536 0) (c .before .before .before .before .sheet .ensures)
 
-slice-aggregate-print-fault : tie.Need-slice-aggregate-print-fault
-slice-aggregate-print-fault c = sym (length-take-le (c .before .before .before .before .before .sheet .result) (c .before .before .before .before .before .sheet .last .1 .0) (answer-within (sheetOf theLedger (c .before .before .before .before .before .before .before .before .args .text .now)) (replicate 65536 0) (c .before .before .before .before .before .sheet .ensures)))
+slice-aggregate-print-words : tie.Need-slice-aggregate-print-words
+slice-aggregate-print-words c = sym (length-take-le (c .before .before .before .before .before .sheet .result) (c .before .before .before .before .before .sheet .last .1 .0) (answer-within (sheetOf theLedger (c .before .before .before .before .before .before .before .before .args .text .now)) (replicate 65536 0) (c .before .before .before .before .before .sheet .ensures)))
 
-print-fault-requires : tie.Need-print-fault-requires
-print-fault-requires c κs = search needs
+print-words-requires : tie.Need-print-words-requires
+print-words-requires c κs = search needs
 
 returns : tie.Need-returns
 returns c = search needs
@@ -54,6 +54,6 @@ print-sheet-spec =
     slice-aggregate-fail
     fail-requires
     array-share-prefix-out-2
-    slice-aggregate-print-fault
-    print-fault-requires
+    slice-aggregate-print-words
+    print-words-requires
     returns)

@@ -1,4 +1,5 @@
 -- The sheet lies within the bytes that were lent for it.
+use borrow.Author.Needs.{needs}
 use mathlib.Core.Path.{sym}
 use lib.ListN.{replicate}
 use lib.Seq.{length-take-le}
@@ -16,22 +17,16 @@ sheet-requires : tie.Need-sheet-requires
 sheet-requires c κs = search needs
 
 array-share-prefix-out : tie.Need-array-share-prefix-out
-array-share-prefix-out c = answer-within (sheetOf theLedger (c .before .before .before .before .before .before .args .text .now)) (replicate 65536 0) (c .before .sheet .ensures)
+array-share-prefix-out c = answer-within (sheetOf theLedger (c .before .before .before .before .before .args .text .now)) (replicate 65536 0) (c .before .sheet .ensures)
 
 slice-aggregate-same : tie.Need-slice-aggregate-same
-slice-aggregate-same c = sym (length-take-le (c .before .before .sheet .result) (c .before .before .sheet .last .1 .0) (answer-within (sheetOf theLedger (c .before .before .before .before .before .before .before .args .text .now)) (replicate 65536 0) (c .before .before .sheet .ensures)))
+slice-aggregate-same c = sym (length-take-le (c .before .before .sheet .result) (c .before .before .sheet .last .1 .0) (answer-within (sheetOf theLedger (c .before .before .before .before .before .before .args .text .now)) (replicate 65536 0) (c .before .before .sheet .ensures)))
 
 same-requires : tie.Need-same-requires
 same-requires c κs = search needs
 
 returns : tie.Need-returns
 returns c = search needs
-
-speaks-otherwise-requires : tie.Need-speaks-otherwise-requires
-speaks-otherwise-requires c κs = search needs
-
-returns-2 : tie.Need-returns-2
-returns-2 c = search needs
 
 pub differs-spec : {M : Type 1} → statement M
 differs-spec =
@@ -42,6 +37,4 @@ differs-spec =
     array-share-prefix-out
     slice-aggregate-same
     same-requires
-    returns
-    speaks-otherwise-requires
-    returns-2)
+    returns)

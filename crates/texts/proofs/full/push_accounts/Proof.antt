@@ -18,11 +18,11 @@ loop-holds c = search needs
 push-number-requires : tie.Need-push-number-requires Inv-loop μ-loop
 push-number-requires c κs = search needs
 
-slice-aggregate-push : tie.Need-slice-aggregate-push Inv-loop μ-loop
-slice-aggregate-push c = search needs
+slice-aggregate-word : tie.Need-slice-aggregate-word Inv-loop μ-loop
+slice-aggregate-word c = search needs
 
-push-requires : tie.Need-push-requires Inv-loop μ-loop
-push-requires c κs = search needs
+word-requires : tie.Need-word-requires Inv-loop μ-loop
+word-requires c κs = search needs
 
 add-a : tie.Need-add-a Inv-loop μ-loop
 add-a c = search needs
@@ -47,8 +47,8 @@ push-accounts-spec =
     μ-loop
     loop-holds
     push-number-requires
-    slice-aggregate-push
-    push-requires
+    slice-aggregate-word
+    word-requires
     add-a
     loop-less
     loop-again

@@ -14,11 +14,11 @@ abbrev μ-loop : tie.MeasureT-loop
 loop-holds : tie.Need-loop-holds Inv-loop μ-loop
 loop-holds c = search needs
 
-slice-aggregate-push : tie.Need-slice-aggregate-push Inv-loop μ-loop
-slice-aggregate-push c = search needs
+slice-aggregate-word : tie.Need-slice-aggregate-word Inv-loop μ-loop
+slice-aggregate-word c = search needs
 
-push-requires : tie.Need-push-requires Inv-loop μ-loop
-push-requires c κs = search needs
+word-requires : tie.Need-word-requires Inv-loop μ-loop
+word-requires c κs = search needs
 
 slice-aggregate-push-many : tie.Need-slice-aggregate-push-many Inv-loop μ-loop
 slice-aggregate-push-many c = search needs
@@ -26,11 +26,11 @@ slice-aggregate-push-many c = search needs
 push-many-requires : tie.Need-push-many-requires Inv-loop μ-loop
 push-many-requires c κs = search needs
 
-slice-aggregate-push-2 : tie.Need-slice-aggregate-push-2 Inv-loop μ-loop
-slice-aggregate-push-2 c = search needs
+slice-aggregate-word-2 : tie.Need-slice-aggregate-word-2 Inv-loop μ-loop
+slice-aggregate-word-2 c = search needs
 
-push-requires-2 : tie.Need-push-requires-2 Inv-loop μ-loop
-push-requires-2 c κs = search needs
+word-requires-2 : tie.Need-word-requires-2 Inv-loop μ-loop
+word-requires-2 c κs = search needs
 
 sub-left : tie.Need-sub-left Inv-loop μ-loop
 sub-left c = search needs
@@ -54,12 +54,12 @@ push-closes-spec =
     Inv-loop
     μ-loop
     loop-holds
-    slice-aggregate-push
-    push-requires
+    slice-aggregate-word
+    word-requires
     slice-aggregate-push-many
     push-many-requires
-    slice-aggregate-push-2
-    push-requires-2
+    slice-aggregate-word-2
+    word-requires-2
     sub-left
     loop-less
     loop-again

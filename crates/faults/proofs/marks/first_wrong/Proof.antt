@@ -1,21 +1,20 @@
--- The place goes on within the file.
+-- The place goes on within the line.
 use Prim.Native.Nat.{_-_, _≤_}
 use native.Mathlib.Omega.{arith}
-use lib.ListN.{length}
-use Rattle.texts.proofs.cases.line_end.Statement.{statement}
-use Rattle.texts.proofs.cases.line_end.Tie as tie
+use Rattle.faults.proofs.marks.first_wrong.Statement.{statement}
+use Rattle.faults.proofs.marks.first_wrong.Tie as tie
 
 abbrev Inv-loop : tie.InvT-loop
-Inv-loop file from at₀ at = (from ≤ at) × (at ≤ length file)
+Inv-loop text from end at₀ at = (from ≤ at) × (at ≤ end)
 
 abbrev μ-loop : tie.MeasureT-loop
-μ-loop file from at₀ at = length file - at
+μ-loop text from end at₀ at = end - at
 
 loop-holds : tie.Need-loop-holds Inv-loop μ-loop
 loop-holds c = omega arith
 
-shared-slice-read-if1 : tie.Need-shared-slice-read-if1 Inv-loop μ-loop
-shared-slice-read-if1 c = omega arith
+stands-wrong-requires : tie.Need-stands-wrong-requires Inv-loop μ-loop
+stands-wrong-requires c κs = omega arith
 
 returns : tie.Need-returns Inv-loop μ-loop
 returns c = omega arith
@@ -32,14 +31,14 @@ loop-again c = omega arith
 returns-2 : tie.Need-returns-2 Inv-loop μ-loop
 returns-2 c = omega arith
 
-pub line-end-spec : {M : Type 1} → statement M
-line-end-spec =
+pub first-wrong-spec : {M : Type 1} → statement M
+first-wrong-spec =
     tie.close
     (tie.spec
     Inv-loop
     μ-loop
     loop-holds
-    shared-slice-read-if1
+    stands-wrong-requires
     returns
     add-at
     loop-less
