@@ -1,8 +1,10 @@
 /* Heidbummen: the margin ledger's entry points for C and every language that calls C.
  *
- * A ledger is a list of signed 64-bit words that the caller lends (`words`, `count`), laid out as document 01, "The ledger's words", says. Every
- * function takes any words and any figures. It answers the paper's number (0: done) and figure; a refusal (any other number) leaves everything that
- * was lent as it was (fx_question alone writes: its three figures are then 0). Nothing is kept between calls and nothing is allocated. */
+ * A ledger is a list of signed 64-bit words that the caller lends (`words`, `count`). docs/RULES.md says which word is which and what a sound ledger is
+ * (section 3), what each call does (5 to 7), its numbers and figures (8), what a day file and its sheet are (9, 10) and what this interface adds (12); the
+ * rules are those of document 01. Every function takes any words and any figures. It answers a number (0: done) and a figure; a refusal (any other number)
+ * leaves everything that was lent as it was (fx_question alone writes: its three figures are then 0). Nothing is kept between calls and nothing is
+ * allocated. */
 #ifndef HEIDBUMMEN_H
 #define HEIDBUMMEN_H
 
