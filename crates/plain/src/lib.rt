@@ -9,6 +9,7 @@ ghost use Prim.Native.Nat.{_<_, _≤_};
 ghost use lib.ListN.{length};
 
 mod bodies;
+mod ranges;
 mod refusals;
 mod sections;
 mod start;

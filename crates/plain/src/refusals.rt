@@ -1,5 +1,6 @@
 // The calls that were refused: how many of how many, and for each its line in the text, the call as it is written there, the number, and the reason in
 // words (01, "Numbers returned").
+use super::ranges;
 use super::sections;
 use dayfile::Contents;
 use faults::marks;
@@ -8,6 +9,16 @@ use lines::LOST;
 use rules::sizes;
 ghost use Prim.Native.Nat.{_<_, _≤_};
 ghost use lib.ListN.{length};
+
+// A call's reply, and where it stands: the call's line, how many accounts and products there are, whether a run has begun.
+struct Refusal {
+    line: usize,
+    n: usize,
+    p: usize,
+    number: u64,
+    figure: i64,
+    begun: bool,
+}
 
 // ---- reasons
 
@@ -51,45 +62,29 @@ fn say_whose(out: &mut [u8], at: usize, letter: u8) -> usize {
     say::word(out, at, b"a trade is between one F and one L")
 }
 
-// 7: the phase.
-fn say_phase(out: &mut [u8], at: usize, letter: u8) -> usize {
-    match letter {
-        b'B' => say::word(out, at, b"the run of this day has begun already"),
-        b'S' => say::word(
-            out,
-            at,
-            b"no transfer is due: the run has not begun, or every account is done",
-        ),
-        _ => say::word(
-            out,
-            at,
-            b"the run is not done: B and then one S for each account come before C",
-        ),
+// 7: the phase, by whether the run has begun.
+fn say_phase(out: &mut [u8], at: usize, letter: u8, begun: bool) -> usize {
+    if letter == b'B' {
+        return say::word(out, at, b"the run of this day has begun already");
     }
-}
-
-// 8: a figure of a trade or of a close.
-fn say_ranges(out: &mut [u8], at: usize, letter: u8) -> usize {
-    let prices = [
-        sizes::MOST_YEN_PRICE as usize,
-        sizes::MOST_CROSS_PRICE as usize,
-    ];
-    if letter == b'T' {
-        let a = say_with(
+    if letter == b'S' {
+        if begun {
+            return say::word(out, at, b"every account has had its transfer: C comes next");
+        }
+        return say::word(out, at, b"the run has not begun: B comes before S");
+    }
+    if begun {
+        return say::word(
             out,
             at,
-            b"out of range: lots 1 to #, ",
-            sizes::MOST_LOTS as u64,
+            b"the run is not done: one S for each account comes before C",
         );
-        return say::form(out, a, b"price 1 to #, of a cross to #", &prices, 0);
     }
-    let a = say_with(
+    say::word(
         out,
         at,
-        b"out of range: lags 0 to 2, rates 1 to #, ",
-        sizes::MOST_RATE as u64,
-    );
-    say::form(out, a, b"price 1 to #, of a cross to #", &prices, 0)
+        b"the run has not begun: B and then one S for each account come before C",
+    )
 }
 
 // 9 and more: what would pass its range, or the limit.
@@ -133,53 +128,50 @@ fn say_passed(out: &mut [u8], at: usize, number: u64, figure: i64) -> usize {
     }
 }
 
-// The reason of a refusal, by how many accounts and products there are, its number, the call's letter and the figure.
-fn say_reason(
-    out: &mut [u8],
-    at: usize,
-    n: usize,
-    p: usize,
-    number: u64,
-    letter: u8,
-    figure: i64,
-) -> usize {
+// The reason of a refusal.
+fn say_reason(text: &[u8], at: usize, r: Refusal, out: &mut [u8], put: usize) -> usize
+    requires { ⌜ at < length (now text) ⌝ }
+{
+    let letter = text[at];
+    let number = r.number;
     match number {
-        3 => say_none(out, at, b"no such account: they are 0 to #", n),
-        4 => say_none(out, at, b"no such product: they are 0 to #", p),
-        5 => say_amount(out, at, letter),
-        6 => say_whose(out, at, letter),
-        7 => say_phase(out, at, letter),
-        8 => say_ranges(out, at, letter),
-        _ => say_passed(out, at, number, figure),
+        3 => say_none(out, put, b"no such account: they are 0 to #", r.n),
+        4 => say_none(out, put, b"no such product: they are 0 to #", r.p),
+        5 => say_amount(out, put, letter),
+        6 => say_whose(out, put, letter),
+        7 => say_phase(out, put, letter, r.begun),
+        8 => ranges::say_first(text, at, r.p, out, put),
+        _ => say_passed(out, put, number, r.figure),
     }
 }
 
 // ---- the calls
 
 // What is said of a call by its reply, `line 18: W 1 50000 refused, 11: above the limit of 0`; nothing, where it was not refused.
-fn say_refusal(
-    text: &[u8],
-    at: usize,
-    line: usize,
-    n: usize,
-    p: usize,
-    number: u64,
-    figure: i64,
-    out: &mut [u8],
-    put: usize,
-) -> usize
+fn say_refusal(text: &[u8], at: usize, r: Refusal, out: &mut [u8], put: usize) -> usize
     requires { ⌜ at < length (now text) ⌝ }
 {
-    if number == 0 {
+    if r.number == 0 {
         return put;
     }
-    let letter = text[at];
     let end = marks::line_end(text, at);
-    let a = say_with(out, put, b"line #: ", line as u64);
+    let a = say_with(out, put, b"line #: ", r.line as u64);
     let b = say::word(out, a, &text[at..end]);
-    let d = say_with(out, b, b" refused, #: ", number);
-    let e = say_reason(out, d, n, p, number, letter, figure);
+    let d = say_with(out, b, b" refused, #: ", r.number);
+    let e = say_reason(text, at, r, out, d);
     say::word(out, e, b"\n")
+}
+
+// Whether a run has begun, behind a call: it has from a begin that is done to a close that is done. A day starts outside a run.
+fn begun_after(begun: bool, letter: u8, number: u64) -> bool {
+    if number > 0 {
+        return begun;
+    }
+    match letter {
+        b'B' => true,
+        b'C' => false,
+        _ => begun,
+    }
 }
 
 // One more, where a reply's number says that its call was refused.
@@ -222,21 +214,22 @@ fn say_refused(
     let mut at = from;
     let mut reply = replies;
     let mut line = first;
+    let mut begun = false;
     while at < text.len() {
-        let number = lines::field_at(sheet, reply, b' ');
-        let next = number.next;
+        let told = lines::field_at(sheet, reply, b' ');
+        let next = told.next;
         let figure = lines::field_at(sheet, next, b'\n');
-        put = say_refusal(
-            text,
-            at,
+        let number = whole::nat_abs(told.value);
+        let r = Refusal {
             line,
             n,
             p,
-            whole::nat_abs(number.value),
-            figure.value,
-            out,
-            put,
-        );
+            number,
+            figure: figure.value,
+            begun,
+        };
+        put = say_refusal(text, at, r, out, put);
+        begun = begun_after(begun, text[at], number);
         reply = figure.next;
         at = super::next_line(text, at);
         line = sections::after(line);

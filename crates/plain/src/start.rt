@@ -1,5 +1,6 @@
 // A ledger that a text states and that is not sound: the clause that fails first, found by `clauses`, with the line of the text that it speaks of.
 use super::bodies;
+use super::ranges;
 use super::sections;
 use clauses::Failing;
 use dayfile::Contents;
@@ -49,9 +50,7 @@ fn tell_range(
     out: &mut [u8],
 ) -> usize {
     let a = figures::say_where(line, k, out);
-    let b = say::word(out, a, name);
-    let counts = [least, most as usize];
-    say::form(out, b, b" is @ and must be # to #", &counts, figure)
+    ranges::say_range(out, a, name, figure, least, most)
 }
 
 // The same, of one that may be as far below 0.
@@ -62,38 +61,14 @@ fn tell_size(line: usize, k: usize, name: &[u8], figure: i64, most: u64, out: &m
     say::form(out, b, b" is @ and must be -# to #", &counts, figure)
 }
 
-// Whether a product's line states a cross: 1, or 0 for a yen product.
-fn kind_at(text: &[u8], line: usize) -> i64 {
-    let at = super::line_start(text, line);
-    if lines::word_at(text, at, b"X") { 1 } else { 0 }
-}
-
 // A product's mark, price, or the two that a cross names.
 fn tell_product(text: &[u8], line: usize, clause: u64, figure: i64, out: &mut [u8]) -> usize {
     if clause == clauses::MARK {
         return tell_range(line, 1, b"the floor mark", figure, 0, 1, out);
     }
     if clause == clauses::PRICE {
-        if kind_at(text, line) == 1 {
-            return tell_range(
-                line,
-                2,
-                b"the price of a cross (X)",
-                figure,
-                1,
-                sizes::MOST_CROSS_PRICE as u64,
-                out,
-            );
-        }
-        return tell_range(
-            line,
-            2,
-            b"the price of a yen product (Y)",
-            figure,
-            1,
-            sizes::MOST_YEN_PRICE as u64,
-            out,
-        );
+        let a = figures::say_where(line, 2, out);
+        return ranges::say_price(out, a, ranges::kind_at(text, line), figure);
     }
     let counts = [line];
     say::form(
@@ -179,7 +154,7 @@ fn tell_position(
             out,
         );
     }
-    let most = rules::products::most_book(kind_at(text, of));
+    let most = rules::products::most_book(ranges::kind_at(text, of));
     tell_size(line, 4, b"the book", figure, most, out)
 }
 
