@@ -4,7 +4,7 @@ use mathlib.Core.List.{List}
 use mathlib.Core.Bool.{Bool, true, false, _&&_}
 use mathlib.Core.Logic.{⊎-elim}
 use borrow.Author.Tests.{leb-false}
-use Prim.Native.Nat.{ℕ, zero, suc, _+_, _<_}
+use Prim.Native.Nat.{ℕ, zero, suc, _+_, _-_, _<_}
 use native.Mathlib.Numerals.{add-one}
 use native.Mathlib.Omega.{arith}
 use lib.Dec.{eqb, leb, ltb}
@@ -13,17 +13,16 @@ use lib.ListN.{length}
 use Rattle.whole.specs.Number.{within, between, is, unless}
 use Rattle.whole.specs.Counting.{all, sum}
 use Rattle.whole.specs.Tests.{below-or-last}
-use Rattle.whole.specs.Signs.{false-true}
 use Rattle.rules.specs.Sizes.{mostPrice, mostBook, mostLots, mostHouse, mostMargin, mostGross}
 use Rattle.rules.specs.Account.{accountOk, grossOf, guaranteeLimit}
 use Rattle.rules.specs.declared.Account.{Account}
 use Rattle.places.specs.declared.Shape.{Shape}
-use Rattle.places.specs.Place.{View, Layout, get, wordsOf, phase, house, productKind, floorMark, price, lots, book}
+use Rattle.places.specs.Place.{View, Layout, get, heads, wordsOf, phase, house, productKind, floorMark, price, due, lots, book}
 use Rattle.places.specs.Act.{shapeOf, shapeOk}
 use Rattle.places.specs.ActLaws.{sound-at, not-sized}
-use Rattle.soundness.specs.Sound.{accountAt, pairOk, productOk, heldOk, positionsOk, headOk, figuresOk, placesOk, doneOk, toComeOk, sound}
+use Rattle.soundness.specs.Sound.{accountAt, pairOk, productOk, heldOk, positionsOk, headOk, figuresOk, placesOk, turn, doneOk, toComeOk, sound}
 use Rattle.clauses.specs.declared.Failing.{Failing}
-use Rattle.clauses.specs.Clauses.{fails, isNone, none, orElse, firstOf, ofShape, ofHead, ofProduct, ofAccount, ofPosition, ofBalance, ofPositions, ofRun, ofFigures, ofPlaces, firstFailing}
+use Rattle.clauses.specs.Clauses.{fails, isNone, none, orElse, firstOf, ofShape, ofHead, ofProduct, ofAccount, ofPosition, ofBalance, ofPositions, ofDone, ofRun, ofFigures, ofPlaces, firstFailing}
 
 -- ---- tests in a row
 
@@ -103,7 +102,11 @@ positions-none n g j =
     ∙ ap₂ _&&_ (positions-held n g j) (last true (is 0 (sum n (λ a. g (lots a j)))) _ refl)
 
 run-none : (s : Shape) (g : View) → isNone (ofRun s g) ≡ (doneOk g && toComeOk s g)
-run-none s g = after true (doneOk g) _ _ refl ∙ last (doneOk g) (toComeOk s g) _ refl
+run-none s g =
+    or-else (firstOf (turn g - 1) (ofDone g)) (unless (toComeOk s g) (fails 20 0 0 (pos 0)) none)
+    ∙ ap₂ _&&_
+    (first-of (turn g - 1) (ofDone g) (λ a. is 0 (g (due a 0))) (λ a. last true (is 0 (g (due a 0))) _ refl))
+    (last true (toComeOk s g) _ refl)
 
 pub figures-none : (s : Shape) (g : View) → isNone (ofFigures s g) ≡ figuresOk s g
 figures-none s g =
@@ -123,35 +126,30 @@ pub shape-none : (W : List ℤ) (s : Shape) → isNone (ofShape W s) ≡ shapeOk
 shape-none W s =
     after true (ltb 0 (s .n)) _ _ refl ∙ after (ltb 0 (s .n)) (ltb 0 (s .p)) _ _ refl ∙ last (ltb 0 (s .n) && ltb 0 (s .p)) (eqb (length W) (wordsOf s)) _ refl
 
--- the last two clauses, where the second is tested with the first
-pub run-idle : (d t : Bool) (f h : Failing) → (d && t) ≡ true → unless (d && t) h none ≡ unless d f (unless t h none)
-run-idle true t f h e = refl
-run-idle false t f h e = absurd (false-true e)
-
-pub run-on : (d t : Bool) (f h : Failing) → unless d f (unless (d && t) h none) ≡ unless d f (unless t h none)
-run-on true t f h = refl
-run-on false t f h = refl
+-- the last two clauses, by the turn
+pub run-idle : (s : Shape) (g : View) → turn g ≡ 0 → ofRun s g ≡ none
+run-idle s g e = rw e
 
 -- ---- all of it, where the list is long enough for a head and where it is not
-pub too-few : (L : Layout) (W : List ℤ) → leb 4 (length W) ≡ false → firstFailing L W ≡ fails 1 0 0 (pos 0)
+pub too-few : (L : Layout) (W : List ℤ) → leb heads (length W) ≡ false → firstFailing L W ≡ fails 1 0 0 (pos 0)
 unfolding firstFailing
 too-few L W e = rw e
 
-pub enough : (L : Layout) (W : List ℤ) (s : Shape) → s ≡ shapeOf W → leb 4 (length W) ≡ true → firstFailing L W ≡ orElse (ofShape W s) (ofPlaces s (get L s W))
+pub enough : (L : Layout) (W : List ℤ) (s : Shape) → s ≡ shapeOf W → leb heads (length W) ≡ true → firstFailing L W ≡ orElse (ofShape W s) (ofPlaces s (get L s W))
 unfolding firstFailing
 enough L W s h e = rw e (ap (λ t. orElse (ofShape W t) (ofPlaces t (get L t W))) (sym h))
 
 pub none-on-sound : (L : Layout) (W : List ℤ) → isNone (firstFailing L W) ≡ sound L W
-none-on-sound L W = go (leb 4 (length W)) refl
+none-on-sound L W = go (leb heads (length W)) refl
   where
-    go : (t : Bool) → leb 4 (length W) ≡ t → isNone (firstFailing L W) ≡ sound L W
+    go : (t : Bool) → leb heads (length W) ≡ t → isNone (firstFailing L W) ≡ sound L W
     go true e =
         let s = shapeOf W in let g = get L s W in
         ap isNone (enough L W s refl e)
         ∙ or-else (ofShape W s) (ofPlaces s g)
         ∙ ap₂ _&&_ (shape-none W s) (places-none s g)
         ∙ sym (sound-at placesOk L W s refl)
-    go false e = ap isNone (too-few L W e) ∙ sym (not-sized placesOk L W (λ n. omega (arith, leb-false 4 (length W) e)))
+    go false e = ap isNone (too-few L W e) ∙ sym (not-sized placesOk L W (λ n. omega (arith, leb-false heads (length W) e)))
 
 -- what the answer says of the words
 pub answered : (L : Layout) (W : List ℤ) {r : Failing} → r ≡ firstFailing L W → (r ≡ firstFailing L W) × (isNone r ≡ sound L W)

@@ -1,25 +1,25 @@
--- 01, "The ledger's words": which clause of soundness a list of words fails first. The clauses are those of `soundness/specs/Sound`, tested in that
--- order: the list, its head, the products, the accounts, the positions product by product, the run.
+-- 01, "The ledger's words": which clause of soundness a list of words fails first. The clauses are those of `soundness/specs/Sound` and of what it
+-- cites, tested in that order: the list, its head, product by product, account by account, the positions product by product, the run.
 use mathlib.Core.List.{List}
 use mathlib.Core.Bool.{Bool, cond}
-use Prim.Native.Nat.{ℕ, zero, suc, _+_}
+use Prim.Native.Nat.{ℕ, zero, suc, _+_, _-_}
 use lib.Dec.{eqb, leb, ltb}
 use lib.IntN.{ℤ, pos}
-use lib.ListN.{length}
+use lib.ListN.{length, getD}
 use Rattle.whole.specs.Number.{within, between, is, unless}
 use Rattle.whole.specs.Counting.{sum}
 use Rattle.rules.specs.Sizes.{mostPrice, mostBook, mostLots, mostHouse, mostMargin, mostGross}
 use Rattle.rules.specs.Account.{grossOf, guaranteeLimit}
 use Rattle.rules.specs.declared.Account.{Account}
 use Rattle.places.specs.declared.Shape.{Shape}
-use Rattle.places.specs.Place.{View, Layout, get, wordsOf, phase, house, productKind, floorMark, price, lots, book}
+use Rattle.places.specs.Place.{View, Layout, get, heads, wordsOf, phase, house, productKind, floorMark, price, due, lots, book}
 use Rattle.places.specs.Act.{shapeOf}
-use Rattle.soundness.specs.Sound.{accountAt, pairOk, doneOk, toComeOk}
+use Rattle.soundness.specs.Sound.{accountAt, pairOk, turn, toComeOk}
 use Rattle.clauses.specs.declared.Failing.{Failing}
 
 -- ---- what is found
 -- a clause by its number, of which account and which product (0 where it is of none), and the figure that fails it: the word itself, of a balance the
--- sum of the lots, and 0 of the list's own clauses and of a clause on several words
+-- sum of the lots, and 0 of a clause on the list's length or on several words
 abbrev pub fails : ℕ → ℕ → ℕ → ℤ → Failing
 fails clause account product figure = record { clause = clause; account = account; product = product; figure = figure }
 
@@ -38,11 +38,11 @@ abbrev pub firstOf : ℕ → (ℕ → Failing) → Failing
 firstOf zero f = none
 firstOf (suc n) f = orElse (firstOf n f) (f n)
 
--- ---- the list: 1 fewer words than a head has, 2 no number of accounts, 3 none of products, 4 another length
+-- ---- the list: 1 fewer words than a head has, 2 the number of accounts, 3 of products, 4 another length than they say
 abbrev pub ofShape : List ℤ → Shape → Failing
 ofShape W s =
-    unless (ltb 0 (s .n)) (fails 2 0 0 (pos 0))
-    (unless (ltb 0 (s .p)) (fails 3 0 0 (pos 0))
+    unless (ltb 0 (s .n)) (fails 2 0 0 (getD W 0 (pos 0)))
+    (unless (ltb 0 (s .p)) (fails 3 0 0 (getD W 1 (pos 0)))
     (unless (eqb (length W) (wordsOf s)) (fails 4 0 0 (pos 0)) none))
 
 -- ---- the head: 5 house, 6 phase
@@ -81,8 +81,11 @@ abbrev pub ofPositions : ℕ → View → ℕ → Failing
 ofPositions n g j = orElse (firstOf n (ofPosition g j)) (ofBalance n g j)
 
 -- ---- the run: 19 due 0 of an account that is done, 20 house on the way to its end
+abbrev pub ofDone : View → ℕ → Failing
+ofDone g a = unless (is 0 (g (due a 0))) (fails 19 a 0 (g (due a 0))) none
+
 abbrev pub ofRun : Shape → View → Failing
-ofRun s g = unless (doneOk g) (fails 19 0 0 (pos 0)) (unless (toComeOk s g) (fails 20 0 0 (pos 0)) none)
+ofRun s g = orElse (firstOf (turn g - 1) (ofDone g)) (unless (toComeOk s g) (fails 20 0 0 (pos 0)) none)
 
 -- ---- all of it
 abbrev pub ofFigures : Shape → View → Failing
@@ -92,4 +95,4 @@ abbrev pub ofPlaces : Shape → View → Failing
 ofPlaces s g = orElse (ofFigures s g) (ofRun s g)
 
 unfoldable pub firstFailing : Layout → List ℤ → Failing
-firstFailing L W = unless (leb 4 (length W)) (fails 1 0 0 (pos 0)) (orElse (ofShape W (shapeOf W)) (ofPlaces (shapeOf W) (get L (shapeOf W) W)))
+firstFailing L W = unless (leb heads (length W)) (fails 1 0 0 (pos 0)) (orElse (ofShape W (shapeOf W)) (ofPlaces (shapeOf W) (get L (shapeOf W) W)))

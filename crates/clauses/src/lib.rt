@@ -5,7 +5,8 @@ ghost use mathlib.Core.Bool.{true};
 ghost use Prim.Native.Nat.{_<_, _≤_};
 ghost use Rattle.whole.specs.Number as N;
 ghost use Rattle.whole.specs.Counting.{all, sum};
-ghost use Rattle.places.specs.Place.{get, lots};
+ghost use lib.ListN.{length};
+ghost use Rattle.places.specs.Place.{get, heads, lots};
 ghost use Rattle.places.specs.PlaceLaws.{Sized};
 ghost use Rattle.places.specs.ByAccount.{byAccount};
 ghost use Rattle.places.specs.Act.{mostAccounts, mostProducts};
@@ -14,56 +15,10 @@ ghost use Rattle.clauses.specs.Clauses as F;
 use places::Shape;
 use rules::Account;
 
-// The numbers of the clauses, in the order in which they are tested; 0 where none fails. The list:
-pub const NONE: u64 = 0;
-
-pub const HEADS: u64 = 1;
-
-pub const ACCOUNTS: u64 = 2;
-
-pub const PRODUCTS: u64 = 3;
-
-pub const LENGTH: u64 = 4;
-
-// the head:
-pub const HOUSE: u64 = 5;
-
-pub const PHASE: u64 = 6;
-
-// a product:
-pub const PRODUCT_KIND: u64 = 7;
-
-pub const MARK: u64 = 8;
-
-pub const PRICE: u64 = 9;
-
-pub const PAIR: u64 = 10;
-
-// an account:
-pub const KIND: u64 = 11;
-
-pub const GUARANTEE: u64 = 12;
-
-pub const CAP: u64 = 13;
-
-pub const MARGIN: u64 = 14;
-
-pub const GROSS: u64 = 15;
-
-// a position, and a product's positions together:
-pub const LOTS: u64 = 16;
-
-pub const BOOK: u64 = 17;
-
-pub const BALANCE: u64 = 18;
-
-// a run that is on:
-pub const DONE: u64 = 19;
-
-pub const TO_COME: u64 = 20;
+pub mod numbers;
 
 // A clause that fails, of which account and which product (0 where it is of none), and the figure that fails it: the word itself, of a balance
-// the sum of the lots, and 0 of the list's own clauses and of a clause on several words.
+// the sum of the lots, and 0 of a clause on the list's length or on several words.
 pub struct Failing {
     pub clause: u64,
     pub account: usize,
@@ -85,14 +40,14 @@ fn fails(clause: u64, account: usize, product: usize, figure: i64) -> Failing
 fn none() -> Failing
     ensures { λ r. ⌜ r ≡ F.none ⌝ }
 {
-    fails(NONE, 0, 0, 0)
+    fails(numbers::NONE, 0, 0, 0)
 }
 
 fn is_none(f: Failing) -> bool
     ensures { λ r. ⌜ r ≡ F.isNone f ⌝ }
 {
     let clause = f.clause;
-    clause == NONE
+    clause == numbers::NONE
 }
 
 // What fails later, where a test is passed.
@@ -112,17 +67,26 @@ fn or_else(f: Failing, later: Failing) -> Failing
 
 fn of_shape(words: &[i64], s: Shape) -> Failing
     requires { ⌜ (s .n ≤ mostAccounts) × (s .p ≤ mostProducts) ⌝ }
+    requires { ⌜ heads ≤ length (now words) ⌝ }
     ensures { λ r. ⌜ r ≡ F.ofShape (now (words .entry)) s ⌝ }
 {
     let n = s.n;
     let p = s.p;
     let length = unless(
         words.len() == places::words_of(s),
-        fails(LENGTH, 0, 0, 0),
+        fails(numbers::LENGTH, 0, 0, 0),
         none(),
     );
-    let products = unless(0 < p, fails(PRODUCTS, 0, 0, 0), length);
-    unless(0 < n, fails(ACCOUNTS, 0, 0, 0), products)
+    let products = unless(
+        0 < p,
+        fails(numbers::PRODUCTS, 0, 0, words[places::PRODUCTS]),
+        length,
+    );
+    unless(
+        0 < n,
+        fails(numbers::ACCOUNTS, 0, 0, words[places::ACCOUNTS]),
+        products,
+    )
 }
 
 fn of_head(words: &[i64], s: Shape) -> Failing
@@ -134,12 +98,12 @@ fn of_head(words: &[i64], s: Shape) -> Failing
     let phase = places::head_word(words, s, places::PHASE);
     let last = unless(
         whole::between(phase, 0, (n + 1) as i64),
-        fails(PHASE, 0, 0, phase),
+        fails(numbers::PHASE, 0, 0, phase),
         none(),
     );
     unless(
         whole::within(house, rules::sizes::MOST_HOUSE),
-        fails(HOUSE, 0, 0, house),
+        fails(numbers::HOUSE, 0, 0, house),
         last,
     )
 }
@@ -156,16 +120,20 @@ fn of_product(words: &[i64], s: Shape, j: usize) -> Failing
     let price = places::prod_word(words, s, j, places::PRICE);
     let most = rules::products::most_price(kind);
     let pair = soundness::products::pair_ok(words, s, j);
-    let last = unless(pair, fails(PAIR, 0, j, 0), none());
+    let last = unless(pair, fails(numbers::PAIR, 0, j, 0), none());
     let third = unless(
         whole::between(price, 1, most),
-        fails(PRICE, 0, j, price),
+        fails(numbers::PRICE, 0, j, price),
         last,
     );
-    let second = unless(whole::between(mark, 0, 1), fails(MARK, 0, j, mark), third);
+    let second = unless(
+        whole::between(mark, 0, 1),
+        fails(numbers::MARK, 0, j, mark),
+        third,
+    );
     unless(
         whole::between(kind, 0, 1),
-        fails(PRODUCT_KIND, 0, j, kind),
+        fails(numbers::PRODUCT_KIND, 0, j, kind),
         second,
     )
 }
@@ -199,21 +167,29 @@ fn of_account(account: Account, a: usize) -> Failing
     let limit = rules::accounts::guarantee_limit(account);
     let last = unless(
         rules::accounts::gross_ok(account),
-        fails(GROSS, a, 0, 0),
+        fails(numbers::GROSS, a, 0, 0),
         none(),
     );
     let fourth = unless(
         whole::between(margin, 0, rules::sizes::MOST_MARGIN),
-        fails(MARGIN, a, 0, margin),
+        fails(numbers::MARGIN, a, 0, margin),
         last,
     );
-    let third = unless(whole::between(cap, 0, limit), fails(CAP, a, 0, cap), fourth);
+    let third = unless(
+        whole::between(cap, 0, limit),
+        fails(numbers::CAP, a, 0, cap),
+        fourth,
+    );
     let second = unless(
         whole::between(guarantee, 0, limit),
-        fails(GUARANTEE, a, 0, guarantee),
+        fails(numbers::GUARANTEE, a, 0, guarantee),
         third,
     );
-    unless(whole::between(kind, 0, 1), fails(KIND, a, 0, kind), second)
+    unless(
+        whole::between(kind, 0, 1),
+        fails(numbers::KIND, a, 0, kind),
+        second,
+    )
 }
 
 fn first_account(words: &[i64], s: Shape) -> Failing
@@ -245,10 +221,14 @@ fn of_position(words: &[i64], s: Shape, j: usize, a: usize) -> Failing
     let lots = places::held_word(words, s, a, j, places::LOTS);
     let book = places::held_word(words, s, a, j, places::BOOK);
     let most = rules::products::most_book(kind);
-    let last = unless(whole::within(book, most), fails(BOOK, a, j, book), none());
+    let last = unless(
+        whole::within(book, most),
+        fails(numbers::BOOK, a, j, book),
+        none(),
+    );
     unless(
         whole::within(lots, rules::sizes::MOST_LOTS as u64),
-        fails(LOTS, a, j, lots),
+        fails(numbers::LOTS, a, j, lots),
         last,
     )
 }
@@ -298,7 +278,11 @@ fn of_positions(words: &[i64], s: Shape, j: usize) -> Failing
         return f;
     }
     let sum = lots_sum(words, s, j);
-    unless(whole::between(sum, 0, 0), fails(BALANCE, 0, j, sum), none())
+    unless(
+        whole::between(sum, 0, 0),
+        fails(numbers::BALANCE, 0, j, sum),
+        none(),
+    )
 }
 
 fn first_positions(words: &[i64], s: Shape) -> Failing
@@ -320,25 +304,53 @@ fn first_positions(words: &[i64], s: Shape) -> Failing
 
 // ---- the run, and all of it
 
+fn of_done(words: &[i64], s: Shape, a: usize) -> Failing
+    requires { ⌜ Sized s (now words) ⌝ }
+    requires { ⌜ a < s .n ⌝ }
+    ensures { λ r. ⌜ r ≡ F.ofDone (get byAccount s (now (words .entry))) a ⌝ }
+{
+    let due = places::acct_word(words, s, a, places::FIRST_DUE);
+    unless(
+        whole::between(due, 0, 0),
+        fails(numbers::DONE, a, 0, due),
+        none(),
+    )
+}
+
+// Of the first `done` accounts.
+fn first_done(words: &[i64], s: Shape, done: usize) -> Failing
+    requires { ⌜ Sized s (now words) ⌝ }
+    requires { ⌜ done ≤ s .n ⌝ }
+    ensures { λ r. ⌜ r ≡ F.firstOf done (F.ofDone (get byAccount s (now (words .entry)))) ⌝ }
+{
+    let mut f = none();
+    let mut a = 0;
+    while a < done {
+        f = of_done(words, s, a);
+        if !is_none(f) {
+            return f;
+        }
+        a += 1;
+    }
+    f
+}
+
 fn of_run(words: &[i64], s: Shape) -> Failing
     requires { ⌜ Sized s (now words) ⌝ }
     requires { ⌜ S.figuresOk s (get byAccount s (now words)) ≡ true ⌝ }
     ensures { λ r. ⌜ r ≡ F.ofRun s (get byAccount s (now (words .entry))) ⌝ }
 {
-    let to_come = unless(
-        soundness::run::run_ok(words, s),
-        fails(TO_COME, 0, 0, 0),
-        none(),
-    );
     let turn = whole::nat_abs(places::head_word(words, s, places::PHASE)) as usize;
     if turn < 1 {
-        return to_come;
+        return none();
     }
-    unless(
-        soundness::run::done_ok(words, s, turn - 1),
-        fails(DONE, 0, 0, 0),
-        to_come,
-    )
+    let f = first_done(words, s, turn - 1);
+    if !is_none(f) {
+        return f;
+    }
+    let house = places::head_word(words, s, places::HOUSE);
+    let to_come = soundness::run::stays(words, s, house, turn - 1);
+    unless(to_come, fails(numbers::TO_COME, 0, 0, 0), none())
 }
 
 fn of_figures(words: &[i64], s: Shape) -> Failing
@@ -368,7 +380,7 @@ pub fn first_failing(words: &[i64]) -> Failing
     ensures { λ r. ⌜ (r ≡ F.firstFailing byAccount (now (words .entry))) × (F.isNone r ≡ S.sound byAccount (now (words .entry))) ⌝ }
 {
     if words.len() < places::HEADS {
-        return fails(HEADS, 0, 0, 0);
+        return fails(numbers::HEADS, 0, 0, 0);
     }
     let s = soundness::shape_of(words);
     let f = of_shape(words, s);

@@ -63,10 +63,10 @@ fn tell_size(line: usize, k: usize, name: &[u8], figure: i64, most: u64, out: &m
 
 // A product's mark, price, or the two that a cross names.
 fn tell_product(text: &[u8], line: usize, clause: u64, figure: i64, out: &mut [u8]) -> usize {
-    if clause == clauses::MARK {
+    if clause == clauses::numbers::MARK {
         return tell_range(line, 1, b"the floor mark", figure, 0, 1, out);
     }
-    if clause == clauses::PRICE {
+    if clause == clauses::numbers::PRICE {
         let a = figures::say_where(line, 2, out);
         return ranges::say_price(out, a, ranges::kind_at(text, line), figure);
     }
@@ -87,7 +87,7 @@ fn tell_guarantee(text: &[u8], line: usize, clause: u64, figure: i64, out: &mut 
         let counts = [line];
         return say::form(out, 0, b"line #: an L has guarantee and cap 0", &counts, 0);
     }
-    if clause == clauses::CAP {
+    if clause == clauses::numbers::CAP {
         return tell_range(
             line,
             3,
@@ -111,7 +111,7 @@ fn tell_guarantee(text: &[u8], line: usize, clause: u64, figure: i64, out: &mut 
 
 // An account's guarantee, cap, initial margin or gross.
 fn tell_account(text: &[u8], line: usize, clause: u64, figure: i64, out: &mut [u8]) -> usize {
-    if clause == clauses::MARGIN {
+    if clause == clauses::numbers::MARGIN {
         return tell_range(
             line,
             4,
@@ -122,7 +122,7 @@ fn tell_account(text: &[u8], line: usize, clause: u64, figure: i64, out: &mut [u
             out,
         );
     }
-    if clause == clauses::GROSS {
+    if clause == clauses::numbers::GROSS {
         let counts = [line, sizes::MOST_GROSS as usize];
         return say::form(
             out,
@@ -144,7 +144,7 @@ fn tell_position(
     figure: i64,
     out: &mut [u8],
 ) -> usize {
-    if clause == clauses::LOTS {
+    if clause == clauses::numbers::LOTS {
         return tell_size(
             line,
             3,
@@ -160,7 +160,7 @@ fn tell_position(
 
 // A product whose lots do not add to zero, or what no day file states.
 fn tell_other(product: usize, clause: u64, sum: i64, out: &mut [u8]) -> usize {
-    if clause == clauses::BALANCE {
+    if clause == clauses::numbers::BALANCE {
         let counts = [product];
         return say::form(
             out,
@@ -184,19 +184,19 @@ fn tell_failing(
 ) -> usize {
     let clause = f.clause;
     let figure = f.figure;
-    if clause < clauses::MARK {
+    if clause < clauses::numbers::MARK {
         return tell_other(0, clause, figure, out);
     }
-    if clause == clauses::KIND {
+    if clause == clauses::numbers::KIND {
         return tell_other(0, clause, figure, out);
     }
-    if clause < clauses::KIND {
+    if clause < clauses::numbers::KIND {
         return tell_product(text, product, clause, figure, out);
     }
-    if clause < clauses::LOTS {
+    if clause < clauses::numbers::LOTS {
         return tell_account(text, account, clause, figure, out);
     }
-    if clause < clauses::BALANCE {
+    if clause < clauses::numbers::BALANCE {
         return tell_position(text, position, product, clause, figure, out);
     }
     tell_other(f.product, clause, figure, out)

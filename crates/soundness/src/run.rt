@@ -15,7 +15,7 @@ ghost use Rattle.soundness.specs.SoundLaws.{DuesIn};
 use places::Shape;
 
 // Whether due 0 is zero in the first `done` accounts.
-pub fn done_ok(words: &[i64], s: Shape, done: usize) -> bool
+fn done_ok(words: &[i64], s: Shape, done: usize) -> bool
     requires { ⌜ Sized s (now words) ⌝ }
     requires { ⌜ done ≤ s .n ⌝ }
     ensures { λ r. ⌜ r ≡ all done (λ a. is 0 (get byAccount s (now (words .entry)) (due a 0))) ⌝ }

@@ -11,7 +11,7 @@ use lib.ListN.{length, getD}
 use borrow.Author.Tests.{eqb-true, le-leb, lt-leb}
 use Rattle.whole.specs.Tests.{both, fails, holds}
 use Rattle.places.specs.declared.Shape.{Shape}
-use Rattle.places.specs.Place.{get, wordsOf}
+use Rattle.places.specs.Place.{get, heads, wordsOf}
 use Rattle.places.specs.ByAccount.{byAccount}
 use Rattle.places.specs.Act.{mostAccounts, mostProducts}
 use Rattle.places.specs.ActLaws.{stated-count-le}
@@ -30,7 +30,7 @@ module _ (c : tie.After-shape-of) where
 
   -- the answer, by the shape that the code has read
   read : firstFailing byAccount W ≡ orElse (ofShape W shape) (ofPlaces shape (get byAccount shape W))
-  read = enough byAccount W shape (c .shape-of .ensures) (le-leb 4 (length W) (omega arith))
+  read = enough byAccount W shape (c .shape-of .ensures) (le-leb heads (length W) (omega arith))
 
   few : (shape .n ≤ mostAccounts) × (shape .p ≤ mostProducts)
   few = rw (c .shape-of .ensures) (stated-count-le mostAccounts (getD W 0 (pos 0)), stated-count-le mostProducts (getD W 1 (pos 0)))
@@ -44,13 +44,13 @@ fails-requires c κs = search needs
 returns : tie.Need-returns
 returns c =
     let s = c .before .before in let W = s .args .words .now in
-    answered byAccount W (c .fails .ensures ∙ sym (too-few byAccount W (lt-leb 4 (length W) (omega arith))))
+    answered byAccount W (c .fails .ensures ∙ sym (too-few byAccount W (lt-leb heads (length W) (omega arith))))
 
 shape-of-requires : tie.Need-shape-of-requires
 shape-of-requires c κs = search needs
 
 of-shape-requires : tie.Need-of-shape-requires
-of-shape-requires c κs = few c
+of-shape-requires c κs = (few c, omega arith)
 
 is-none-requires : tie.Need-is-none-requires
 is-none-requires c κs = search needs

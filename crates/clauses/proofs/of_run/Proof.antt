@@ -1,47 +1,43 @@
--- In phase 0 nothing is asked; else due 0 of the accounts done is tested before the two together.
-use Prim.Native.Nat.{_+_, _-_}
+-- In phase 0 nothing is asked; else due 0 of the accounts done, then the walk over those to come.
+use Prim.Native.Nat.{_+_, _-_, _≤_}
 use native.Mathlib.Omega.{arith}
 use borrow.Author.Needs.{needs}
-use mathlib.Core.Path.{_≡_, ap, _∙_}
-use mathlib.Core.Bool.{_&&_}
+use mathlib.Core.Path.{_≡_, sym, ap, _∙_}
 use lib.IntN.{pos, natAbs}
-use Rattle.whole.specs.Number.{is, unless}
-use Rattle.whole.specs.Counting.{all}
-use Rattle.whole.specs.Tests.{in-range}
+use Rattle.whole.specs.Number.{unless}
+use Rattle.whole.specs.Tests.{fails, holds, in-range}
 use Rattle.whole.specs.Signs.{came}
-use Rattle.places.specs.Place.{View, get, phase, due}
+use Rattle.places.specs.Place.{View, get, phase}
 use Rattle.places.specs.ByAccount.{byAccount}
-use Rattle.soundness.specs.Sound.{turn, doneOk, toComeOk}
-use Rattle.soundness.specs.SoundLaws.{not-begun, phase-in}
-use Rattle.clauses.specs.Clauses.{fails, none}
-use Rattle.clauses.specs.ClauseLaws.{tested, run-idle, run-on}
-use borrow.Author.Needs.{needs}
+use Rattle.soundness.specs.Sound as S
+use Rattle.soundness.specs.SoundLaws.{begun, phase-in, house-in, dues-in}
+use Rattle.clauses.specs.declared.Failing.{Failing}
+use Rattle.clauses.specs.Clauses as F
+use Rattle.clauses.specs.ClauseLaws.{tested, or-first, or-later, run-idle}
 use Rattle.clauses.proofs.of_run.Statement.{statement}
 use Rattle.clauses.proofs.of_run.Tie as tie
 
 abbrev g : tie.Start → View
 g s = get byAccount (s .args .s) (s .args .words .now)
 
-turned : (c : tie.After-nat-abs) → c .nat-abs .result ≡ turn (g (c .before .before .before .before .before .before))
+abbrev done : tie.Start → Failing
+done s = F.firstOf (S.turn (g s) - 1) (F.ofDone (g s))
+
+abbrev toCome : tie.Start → Failing
+toCome s = unless (S.toComeOk (s .args .s) (g s)) (F.fails 20 0 0 (pos 0)) F.none
+
+turned : (c : tie.After-nat-abs) → c .nat-abs .result ≡ S.turn (g (c .before .before))
 turned c = let w = c .before .head-word in c .nat-abs .ensures ∙ ap natAbs (came (w .result) (w .ok) (w .ensures))
 
--- what the two clauses together give
-later : (c : tie.After-unless) → let s = c .before .before .before .before in c .unless .result ≡ unless (doneOk (g s) && toComeOk (s .args .s) (g s)) (fails 20 0 0 (pos 0)) none
-later c =
-    let s = c .before .before .before .before in
-    tested (doneOk (g s) && toComeOk (s .args .s) (g s)) (c .unless .ensures) (c .before .before .before .run-ok .ensures) (c .before .before .fails .ensures) (c .before .none .ensures)
+-- the phase is one of the ledger's
+most : (s : tie.Start) → S.turn (g s) ≤ s .args .s .n + 1
+most s = in-range 0 (s .args .s .n + 1) (g s phase) (phase-in (s .args .s) (g s) (s .pre .1)) .high
 
-run-ok-requires : tie.Need-run-ok-requires
-run-ok-requires c κs = search needs
+first : (c : tie.After-first-done) → c .first-done .result ≡ done (c .before .before .before .before)
+first c = let d = c .before .before in c .first-done .ensures ∙ ap (λ k. F.firstOf (k - 1) (F.ofDone (g (d .before .before)))) (turned d)
 
-fails-requires : tie.Need-fails-requires
-fails-requires c κs = search needs
-
-none-requires : tie.Need-none-requires
-none-requires c κs = search needs
-
-unless-requires : tie.Need-unless-requires
-unless-requires c κs = search needs
+found : (c : tie.After-is-none) → c .is-none .result ≡ F.isNone (done (c .before .before .before .before .before))
+found c = c .is-none .ensures ∙ ap F.isNone (first (c .before))
 
 head-word-requires : tie.Need-head-word-requires
 head-word-requires c κs = search needs
@@ -49,40 +45,64 @@ head-word-requires c κs = search needs
 nat-abs-requires : tie.Need-nat-abs-requires
 nat-abs-requires c κs = search needs
 
+none-requires : tie.Need-none-requires
+none-requires c κs = search needs
+
 returns : tie.Need-returns
-returns c =
-    let d = c .before in let s = d .before .before .before .before .before .before in
-    later (d .before .before) ∙ run-idle (doneOk (g s)) (toComeOk (s .args .s) (g s)) (fails 19 0 0 (pos 0)) (fails 20 0 0 (pos 0)) (not-begun (s .args .s) (g s) (omega (arith, turned d)))
+returns c = let d = c .before .before in let s = d .before .before in c .none .ensures ∙ sym (run-idle (s .args .s) (g s) (omega (arith, turned d)))
 
-done-ok-requires : tie.Need-done-ok-requires
-done-ok-requires c κs =
-    let d = c .before in let s = d .before .before .before .before .before .before in
-    (s .pre .0, omega (arith, turned d, in-range 0 (s .args .s .n + 1) (g s phase) (phase-in (s .args .s) (g s) (s .pre .1)) .high))
+first-done-requires : tie.Need-first-done-requires
+first-done-requires c κs = let d = c .before in let s = d .before .before in (s .pre .0, omega (arith, turned d, most s))
 
-fails-requires-2 : tie.Need-fails-requires-2
-fails-requires-2 c κs = search needs
-
-unless-requires-2 : tie.Need-unless-requires-2
-unless-requires-2 c κs = search needs
+is-none-requires : tie.Need-is-none-requires
+is-none-requires c κs = search needs
 
 returns-2 : tie.Need-returns-2
 returns-2 c =
-    let d = c .before .before .before .before in let s = d .before .before .before .before .before .before in
-    tested (doneOk (g s)) (c .unless2 .ensures) (c .before .before .done-ok .ensures ∙ ap (λ k. all (k - 1) (λ a. is 0 (g s (due a 0)))) (turned d)) (c .before .fails2 .ensures) (later (d .before .before))
-    ∙ run-on (doneOk (g s)) (toComeOk (s .args .s) (g s)) (fails 19 0 0 (pos 0)) (fails 20 0 0 (pos 0))
+    let e = c .before in let s = e .before .before .before .before .before in
+    first (e .before) ∙ sym (or-first (done s) (toCome s) (fails (found e) (c .if2 .taken)))
+
+head-word-requires-2 : tie.Need-head-word-requires-2
+head-word-requires-2 c κs = search needs
+
+stays-requires : tie.Need-stays-requires
+stays-requires c κs =
+    let w = c .head-word2 in let d = c .before .before .before .before .before in let s = d .before .before in
+    (s .pre .0, (dues-in (s .args .s) (g s) (s .pre .1), (rw (came (w .result) (w .ok) (w .ensures)) (house-in (s .args .s) (g s) (s .pre .1)), omega (arith, turned d, most s))))
+
+fails-requires : tie.Need-fails-requires
+fails-requires c κs = search needs
+
+none-requires-2 : tie.Need-none-requires-2
+none-requires-2 c κs = search needs
+
+unless-requires : tie.Need-unless-requires
+unless-requires c κs = search needs
+
+returns-3 : tie.Need-returns-3
+returns-3 c =
+    let x = c .before .before .before in let w = x .before .head-word2 in let e = x .before .before in let d = e .before .before .before .before in let s = d .before .before in
+    let walk =
+    x .stays .ensures
+    ∙ (λ i. S.stays (s .args .s .n - (turned d i - 1)) (came (w .result) (w .ok) (w .ensures) i) (turned d i - 1) (g s))
+    ∙ begun (s .args .s) (g s) (omega (arith, turned d)) (most s) in
+    tested (S.toComeOk (s .args .s) (g s)) (c .unless .ensures) walk (c .before .before .fails .ensures) (c .before .none2 .ensures)
+    ∙ sym (or-later (done s) (toCome s) (holds (found (e .before)) (e .if2 .left)))
 
 pub of-run-spec : {M : Type 1} → statement M
 of-run-spec =
     tie.close
     (tie.spec
-    run-ok-requires
-    fails-requires
-    none-requires
-    unless-requires
     head-word-requires
     nat-abs-requires
+    none-requires
     returns
-    done-ok-requires
-    fails-requires-2
-    unless-requires-2
-    returns-2)
+    first-done-requires
+    is-none-requires
+    returns-2
+    head-word-requires-2
+    stays-requires
+    fails-requires
+    none-requires-2
+    unless-requires
+    returns-3)
