@@ -48,6 +48,11 @@ fn figure_at(figures: &[i64], i: usize) -> i64 {
     0
 }
 
+fn say_product(out: &mut [u8], at: usize, product: usize) -> usize {
+    let counts = [product];
+    say::form(out, at, b"product #: ", &counts, 0)
+}
+
 // ---- a trade
 
 // Its lots, else its price: account, account and product come before them.
@@ -64,7 +69,8 @@ fn say_trade(text: &[u8], figures: &[i64], out: &mut [u8], put: usize) -> usize 
         );
     }
     let product = whole::nat_abs(figure_at(figures, 2)) as usize;
-    say_price(out, put, kind_of(text, product), figure_at(figures, 4))
+    let a = say_product(out, put, product);
+    say_price(out, a, kind_of(text, product), figure_at(figures, 4))
 }
 
 // ---- a close
@@ -103,8 +109,7 @@ fn say_close(text: &[u8], figures: &[i64], out: &mut [u8], put: usize) -> usize 
     let i = first_outside(text, figures);
     let x = figure_at(figures, i);
     let product = i / OF_PRODUCT;
-    let counts = [product];
-    let a = say::form(out, put, b"product #: ", &counts, 0);
+    let a = say_product(out, put, product);
     let rate = sizes::MOST_RATE as u64;
     match i % OF_PRODUCT {
         0 => say_price(out, a, kind_of(text, product), x),

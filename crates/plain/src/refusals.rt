@@ -10,14 +10,21 @@ use rules::sizes;
 ghost use Prim.Native.Nat.{_<_, _≤_};
 ghost use lib.ListN.{length};
 
-// A call's reply, and where it stands: the call's line, how many accounts and products there are, whether a run has begun.
+// Where in the run a call stands: the phase (RULES, 3.2), 0 outside a run and then one more than the transfers that are done; and whether a close is
+// done since the last begin.
+struct Stage {
+    phase: usize,
+    closed: bool,
+}
+
+// A call's reply, and where it stands: the call's line, how many accounts and products there are, and the stage.
 struct Refusal {
     line: usize,
     n: usize,
     p: usize,
     number: u64,
     figure: i64,
-    begun: bool,
+    stage: Stage,
 }
 
 // ---- reasons
@@ -62,28 +69,52 @@ fn say_whose(out: &mut [u8], at: usize, letter: u8) -> usize {
     say::word(out, at, b"a trade is between one F and one L")
 }
 
-// 7: the phase, by whether the run has begun.
-fn say_phase(out: &mut [u8], at: usize, letter: u8, begun: bool) -> usize {
-    if letter == b'B' {
-        return say::word(out, at, b"the run of this day has begun already");
-    }
-    if letter == b'S' {
-        if begun {
-            return say::word(out, at, b"every account has had its transfer: C comes next");
-        }
-        return say::word(out, at, b"the run has not begun: B comes before S");
-    }
-    if begun {
+// 7 outside a run. Behind a close a begin is not asked for: it would move the dues of another day.
+fn say_outside(out: &mut [u8], at: usize, letter: u8, closed: bool) -> usize {
+    if closed {
         return say::word(
             out,
             at,
-            b"the run is not done: one S for each account comes before C",
+            b"the day is closed already: a B here would start another day",
         );
+    }
+    if letter == b'S' {
+        return say::word(out, at, b"the run has not begun: B comes before S");
     }
     say::word(
         out,
         at,
         b"the run has not begun: B and then one S for each account come before C",
+    )
+}
+
+// 7: the phase.
+fn say_phase(out: &mut [u8], at: usize, letter: u8, n: usize, t: Stage) -> usize {
+    let phase = t.phase;
+    if phase == 0 {
+        return say_outside(out, at, letter, t.closed);
+    }
+    if letter == b'B' {
+        return say::word(
+            out,
+            at,
+            b"the run has begun already, and no close is done since",
+        );
+    }
+    if letter == b'S' {
+        return say::word(
+            out,
+            at,
+            b"every account has had its transfer, and no close is done since",
+        );
+    }
+    let counts = [phase - 1, n];
+    say::form(
+        out,
+        at,
+        b"# of # accounts have had their transfer: one S for each comes before C",
+        &counts,
+        0,
     )
 }
 
@@ -139,7 +170,7 @@ fn say_reason(text: &[u8], at: usize, r: Refusal, out: &mut [u8], put: usize) ->
         4 => say_none(out, put, b"no such product: they are 0 to #", r.p),
         5 => say_amount(out, put, letter),
         6 => say_whose(out, put, letter),
-        7 => say_phase(out, put, letter, r.begun),
+        7 => say_phase(out, put, letter, r.n, r.stage),
         8 => ranges::say_first(text, at, r.p, out, put),
         _ => say_passed(out, put, number, r.figure),
     }
@@ -162,15 +193,27 @@ fn say_refusal(text: &[u8], at: usize, r: Refusal, out: &mut [u8], put: usize) -
     say::word(out, e, b"\n")
 }
 
-// Whether a run has begun, behind a call: it has from a begin that is done to a close that is done. A day starts outside a run.
-fn begun_after(begun: bool, letter: u8, number: u64) -> bool {
+// The stage behind a call. A day starts outside a run, with no close done.
+fn stage_after(t: Stage, letter: u8, number: u64) -> Stage {
+    let phase = t.phase;
+    let closed = t.closed;
     if number > 0 {
-        return begun;
+        return Stage { phase, closed };
     }
     match letter {
-        b'B' => true,
-        b'C' => false,
-        _ => begun,
+        b'B' => Stage {
+            phase: 1,
+            closed: false,
+        },
+        b'S' => Stage {
+            phase: sections::after(phase),
+            closed,
+        },
+        b'C' => Stage {
+            phase: 0,
+            closed: true,
+        },
+        _ => Stage { phase, closed },
     }
 }
 
@@ -214,7 +257,10 @@ fn say_refused(
     let mut at = from;
     let mut reply = replies;
     let mut line = first;
-    let mut begun = false;
+    let mut stage = Stage {
+        phase: 0,
+        closed: false,
+    };
     while at < text.len() {
         let told = lines::field_at(sheet, reply, b' ');
         let next = told.next;
@@ -226,10 +272,10 @@ fn say_refused(
             p,
             number,
             figure: figure.value,
-            begun,
+            stage,
         };
         put = say_refusal(text, at, r, out, put);
-        begun = begun_after(begun, text[at], number);
+        stage = stage_after(stage, text[at], number);
         reply = figure.next;
         at = super::next_line(text, at);
         line = sections::after(line);

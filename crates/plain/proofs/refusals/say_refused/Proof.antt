@@ -7,10 +7,10 @@ use Rattle.plain.proofs.refusals.say_refused.Statement.{statement}
 use Rattle.plain.proofs.refusals.say_refused.Tie as tie
 
 abbrev Inv-loop : tie.InvT-loop
-Inv-loop text from first n p sheet replies out₀ start put₀ at₀ reply₀ line₀ begun₀ out put at reply line begun = length out ≡ length out₀
+Inv-loop text from first n p sheet replies out₀ start put₀ at₀ reply₀ line₀ stage₀ out put at reply line stage = length out ≡ length out₀
 
 abbrev μ-loop : tie.MeasureT-loop
-μ-loop text from first n p sheet replies out₀ start put₀ at₀ reply₀ line₀ begun₀ out put at reply line begun = length text - at
+μ-loop text from first n p sheet replies out₀ start put₀ at₀ reply₀ line₀ stage₀ out put at reply line stage = length text - at
 
 loop-holds : tie.Need-loop-holds Inv-loop μ-loop
 loop-holds c = omega arith
@@ -27,11 +27,11 @@ nat-abs-requires c κs = tt
 say-refusal-requires : tie.Need-say-refusal-requires Inv-loop μ-loop
 say-refusal-requires c κs = omega arith
 
-shared-slice-read-begun-after : tie.Need-shared-slice-read-begun-after Inv-loop μ-loop
-shared-slice-read-begun-after c = omega arith
+shared-slice-read-stage-after : tie.Need-shared-slice-read-stage-after Inv-loop μ-loop
+shared-slice-read-stage-after c = omega arith
 
-begun-after-requires : tie.Need-begun-after-requires Inv-loop μ-loop
-begun-after-requires c κs = tt
+stage-after-requires : tie.Need-stage-after-requires Inv-loop μ-loop
+stage-after-requires c κs = tt
 
 next-line-requires : tie.Need-next-line-requires Inv-loop μ-loop
 next-line-requires c κs = omega arith
@@ -62,8 +62,8 @@ say-refused-spec =
     field-at-requires-2
     nat-abs-requires
     say-refusal-requires
-    shared-slice-read-begun-after
-    begun-after-requires
+    shared-slice-read-stage-after
+    stage-after-requires
     next-line-requires
     after-requires
     loop-less
