@@ -4,8 +4,6 @@ use super::sections;
 use faults::say;
 use rules::products;
 use rules::sizes;
-ghost use Prim.Native.Nat.{_≤_};
-ghost use lib.ListN.{length};
 
 // `the guarantee is -5 and must be 0 to 1000000000000`
 pub fn say_range(

@@ -1,7 +1,6 @@
 // The largest day: 64 accounts, 16 products, 1,024 positions, 1,000 calls; and its sheet. Every figure but some books is 0, and every call
 // is a step or a close that the phase forbids (7), so that each line of the sheet is known.
 ghost use Prim.Native.Nat.{_≤_};
-ghost use lib.ListN.{length};
 use faults::say;
 
 // A number and the byte behind it, where there is room; else the place of the list's end.

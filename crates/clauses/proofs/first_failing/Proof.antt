@@ -17,7 +17,6 @@ use Rattle.places.specs.Act.{mostAccounts, mostProducts}
 use Rattle.places.specs.ActLaws.{stated-count-le}
 use Rattle.clauses.specs.Clauses.{isNone, orElse, ofShape, ofPlaces, firstFailing}
 use Rattle.clauses.specs.ClauseLaws.{or-first, or-later, shape-none, too-few, enough, answered}
-use borrow.Author.Needs.{needs}
 use Rattle.clauses.proofs.first_failing.Statement.{statement}
 use Rattle.clauses.proofs.first_failing.Tie as tie
 

@@ -8,7 +8,6 @@ use Rattle.whole.specs.Signs.{back, came}
 use Rattle.rules.specs.Sizes.{mostMargin, mostGross}
 use Rattle.rules.specs.Account.{guaranteeLimit, grossOf}
 use Rattle.clauses.specs.ClauseLaws.{figured, tested}
-use borrow.Author.Needs.{needs}
 use Rattle.clauses.proofs.of_account.Statement.{statement}
 use Rattle.clauses.proofs.of_account.Tie as tie
 

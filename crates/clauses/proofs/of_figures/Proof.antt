@@ -2,7 +2,6 @@
 use borrow.Author.Needs.{needs}
 use mathlib.Core.Path.{ap₂, _∙_}
 use Rattle.clauses.specs.Clauses.{orElse}
-use borrow.Author.Needs.{needs}
 use Rattle.clauses.proofs.of_figures.Statement.{statement}
 use Rattle.clauses.proofs.of_figures.Tie as tie
 

@@ -2,7 +2,6 @@
 use Prim.Native.Nat.{_+_}
 use native.Mathlib.Omega.{arith}
 use borrow.Author.Needs.{needs}
-use Prim.Native.Nat.{_+_}
 use mathlib.Core.Path.{ap, ap₂, _∙_}
 use lib.IntN.{pos}
 use mir.ValLaws.{toZ-pos}
@@ -13,7 +12,6 @@ use Rattle.rules.specs.Sizes.{mostHouse}
 use Rattle.places.specs.Place.{get, house, phase}
 use Rattle.places.specs.ByAccount.{byAccount}
 use Rattle.clauses.specs.ClauseLaws.{figured, tested}
-use borrow.Author.Needs.{needs}
 use Rattle.clauses.proofs.of_head.Statement.{statement}
 use Rattle.clauses.proofs.of_head.Tie as tie
 

@@ -6,7 +6,6 @@ use Rattle.places.specs.Place.{View, get}
 use Rattle.places.specs.ByAccount.{byAccount}
 use Rattle.clauses.specs.Clauses.{isNone, ofFigures, ofRun}
 use Rattle.clauses.specs.ClauseLaws.{or-first, or-later, figures-none}
-use borrow.Author.Needs.{needs}
 use Rattle.clauses.proofs.of_places.Statement.{statement}
 use Rattle.clauses.proofs.of_places.Tie as tie
 

@@ -7,7 +7,6 @@ use Rattle.rules.specs.Sizes.{mostLots, mostBook}
 use Rattle.places.specs.Place.{get, productKind, lots, book}
 use Rattle.places.specs.ByAccount.{byAccount}
 use Rattle.clauses.specs.ClauseLaws.{figured, tested}
-use borrow.Author.Needs.{needs}
 use Rattle.clauses.proofs.of_position.Statement.{statement}
 use Rattle.clauses.proofs.of_position.Tie as tie
 

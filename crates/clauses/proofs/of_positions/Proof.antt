@@ -10,7 +10,6 @@ use Rattle.places.specs.ByAccount.{byAccount}
 use Rattle.clauses.specs.declared.Failing.{Failing}
 use Rattle.clauses.specs.Clauses.{isNone, firstOf, ofPosition, ofBalance}
 use Rattle.clauses.specs.ClauseLaws.{figured, tested, or-first, or-later, positions-held}
-use borrow.Author.Needs.{needs}
 use Rattle.clauses.proofs.of_positions.Statement.{statement}
 use Rattle.clauses.proofs.of_positions.Tie as tie
 

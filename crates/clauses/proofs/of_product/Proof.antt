@@ -9,7 +9,6 @@ use Rattle.places.specs.Place.{get, productKind, floorMark, price}
 use Rattle.places.specs.ByAccount.{byAccount}
 use Rattle.soundness.specs.Sound.{pairOk}
 use Rattle.clauses.specs.ClauseLaws.{figured, tested}
-use borrow.Author.Needs.{needs}
 use Rattle.clauses.proofs.of_product.Statement.{statement}
 use Rattle.clauses.proofs.of_product.Tie as tie
 

@@ -2,7 +2,6 @@
 use borrow.Author.Needs.{needs}
 use mathlib.Core.Path.{sym, _∙_}
 use Rattle.clauses.specs.ClauseLaws.{or-first, or-later}
-use borrow.Author.Needs.{needs}
 use Rattle.clauses.proofs.or_else.Statement.{statement}
 use Rattle.clauses.proofs.or_else.Tie as tie
 

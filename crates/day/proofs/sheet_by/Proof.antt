@@ -1,7 +1,6 @@
 -- `sheet_by` meets its contract: the counts are small, so that the words of the ledger are a first part of the words lent. Assumes nothing.
 use mathlib.Core.Path.{_≡_, sym, _∙_, ap, subst}
 use Prim.Native.Nat.{ℕ, _+_, _≤_}
-use native.Mathlib.Omega.{arith}
 use lib.IntN.{pos}
 use lib.ListN.{length, take, replicate}
 use lib.Seq.{sets, length-take-le}

@@ -6,7 +6,6 @@ use lib.Seq.{length-take-le}
 use Rattle.calls.specs.Ledger.{theLedger}
 use Rattle.day.specs.Sheet.{sheetOf}
 use Rattle.day.proofs.SheetLaws.{answer-within}
-use borrow.Author.Needs.{needs}
 use Rattle.texts.proofs.differs.Statement.{statement}
 use Rattle.texts.proofs.differs.Tie as tie
 

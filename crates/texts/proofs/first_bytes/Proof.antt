@@ -2,7 +2,6 @@
 use borrow.Author.Needs.{needs}
 use mathlib.Core.Path.{sym}
 use lib.Seq.{length-take-le}
-use borrow.Author.Needs.{needs}
 use Rattle.texts.proofs.first_bytes.Statement.{statement}
 use Rattle.texts.proofs.first_bytes.Tie as tie
 

@@ -9,7 +9,6 @@ use Rattle.places.specs.Place.{wordsOf}
 use Rattle.dayfile.specs.InsideDayfile.{Modest}
 use Rattle.dayfile.specs.Table.{ledgerShape}
 use Rattle.dayfile.proofs.ContentsLaws.{contents-modest, first-words}
-use borrow.Author.Needs.{needs}
 use Rattle.plain.proofs.start.failing_by.Statement.{statement}
 use Rattle.plain.proofs.start.failing_by.Tie as tie
 
