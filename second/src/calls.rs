@@ -6,7 +6,7 @@
 use crate::ledger::{self, CROSS};
 use crate::limits::{book_limit, price_limit, within, AMOUNT, GUARANTEE, LOTS};
 use crate::margin::{lg_value, CAP, GUARANTEE_AT, KIND, RECORD};
-use crate::{teller, word, Answer, Reply};
+use crate::{teller, Answer, Reply};
 
 /// 1, 3, 5, 10; the figure is the new cash.
 pub fn deposit(words: &mut [i64], account: i64, amount: i64) -> Reply {
@@ -43,7 +43,7 @@ pub fn guarantee(words: &mut [i64], account: i64, guarantee: i64, cap: i64) -> R
     }
     words[record + GUARANTEE_AT] = guarantee;
     words[record + CAP] = cap;
-    Reply::done(lg_value(i128::from(guarantee), i128::from(cap)))
+    Reply::done(lg_value(guarantee, cap))
 }
 
 /// 1, 3; limit and both shortfalls. It only reads.
@@ -53,9 +53,9 @@ pub fn question(words: &[i64], account: i64) -> Answer {
     let account = crate::margin::Account::read(&words[at.account(a)..]);
     Answer {
         number: 0,
-        limit: word(account.limit()),
-        first: word(account.first_shortfall()),
-        second: word(account.second_shortfall()),
+        limit: account.limit(),
+        first: account.first_shortfall(),
+        second: account.second_shortfall(),
     }
 }
 
@@ -81,19 +81,21 @@ pub fn trade(
     if !within(lots, 1, LOTS) || !within(price, 1, price_limit(cross)) {
         return Reply::refused(8);
     }
-    let value = i128::from(lots) * i128::from(price);
-    let bought = moved(words, at.position(buyer, j), i128::from(lots), value, cross);
-    let sold = moved(words, at.position(seller, j), -i128::from(lots), -value, cross);
-    let (Some(bought), Some(sold)) = (bought, sold) else { return Reply::refused(9) };
-    words[at.position(buyer, j)..][..2].copy_from_slice(&bought);
-    words[at.position(seller, j)..][..2].copy_from_slice(&sold);
+    // The value is at most 5×10^12, and a book starts within 10^13.
+    let (value, book_limit) = (lots * price, book_limit(cross));
+    let (bought, sold) = (at.position(buyer, j), at.position(seller, j));
+    let [bought_lots, bought_book] = [words[bought] + lots, words[bought + 1] + value];
+    let [sold_lots, sold_book] = [words[sold] - lots, words[sold + 1] - value];
+    if !within(bought_lots, -LOTS, LOTS)
+        || !within(bought_book, -book_limit, book_limit)
+        || !within(sold_lots, -LOTS, LOTS)
+        || !within(sold_book, -book_limit, book_limit)
+    {
+        return Reply::refused(9);
+    }
+    words[bought] = bought_lots;
+    words[bought + 1] = bought_book;
+    words[sold] = sold_lots;
+    words[sold + 1] = sold_book;
     Reply::done(0)
-}
-
-/// Lots and book of a position after a trade, if both stay in range.
-fn moved(words: &[i64], at: usize, lots: i128, value: i128, cross: bool) -> Option<[i64; 2]> {
-    let lots = i128::from(words[at]) + lots;
-    let book = i128::from(words[at + 1]) + value;
-    let fits = lots.abs() <= i128::from(LOTS) && book.abs() <= i128::from(book_limit(cross));
-    fits.then(|| [word(lots), word(book)])
 }

@@ -252,7 +252,7 @@ fn teller(rng: &mut Rng) -> Vec<Vec<i64>> {
     let mut record = vec![0; RECORD];
     let flavour = Flavour::draw(rng);
     ledgers::record(rng, &mut record, flavour);
-    let limit = Account::read(&record).limit() as i64;
+    let limit = Account::read(&record).limit();
     let amount = match rng.below(3) {
         0 => limit.max(1),
         1 => limit + 1,

@@ -162,12 +162,12 @@ impl<'a> Harness<'a> {
         ledgers::record(rng, &mut record, flavour);
         let account = Account::read(&record);
         let amount = match rng.below(6) {
-            0 => account.limit() as i64,
-            1 => account.limit() as i64 + 1,
+            0 => account.limit(),
+            1 => account.limit() + 1,
             2 => {
                 let dues = account.gross() - account.cash.abs();
-                let room = i128::from(GROSS) - dues - account.cash;
-                room as i64 + rng.between(-1, 1)
+                let room = GROSS - dues - account.cash;
+                room + rng.between(-1, 1)
             }
             _ => argument(rng, 1, AMOUNT),
         };

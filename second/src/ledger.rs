@@ -81,13 +81,10 @@ impl Layout {
 /// The layout of a sound ledger, or nothing. Every call begins here.
 pub fn sound(words: &[i64]) -> Option<Layout> {
     let at = Layout::of(words)?;
-    let products = &words[HEAD..at.account(0)];
-    let accounts = &words[at.account(0)..];
     let sound = within(words[PHASE], 0, words[N] + 1)
         && within(words[HOUSE_AT], -HOUSE, HOUSE)
-        && sound_products(products)
-        && sound_accounts(products, accounts, at)
-        && sound_run(words, at);
+        && sound_products(&words[HEAD..at.account(0)])
+        && sound_accounts(words, at);
     sound.then_some(at)
 }
 
@@ -111,46 +108,56 @@ fn lower_yen(products: &[i64], j: usize, named: i64) -> bool {
     within(named, 0, j as i64 - 1) && products[PRODUCT * named as usize + CROSS] == 0
 }
 
-/// Every account's figures and positions in range, and each product's lots
-/// adding to zero over the accounts. Books are tied to nothing but their range.
-fn sound_accounts(products: &[i64], accounts: &[i64], at: Layout) -> bool {
-    let mut books = [0; PRODUCTS as usize];
-    for (limit, product) in books.iter_mut().zip(products.chunks_exact(PRODUCT)) {
-        *limit = book_limit(product[CROSS] == 1);
+/// What the walk over the accounts keeps of one product.
+#[derive(Clone, Copy, Default)]
+struct Column {
+    book_limit: i64,
+    /// The lots so far, at most 64 × 10^6 on either side.
+    lots: i64,
+}
+
+/// Every account's figures and positions in range, its due 0 as the run asks,
+/// and each product's lots adding to zero over the accounts. Books are tied to
+/// nothing but their range.
+fn sound_accounts(words: &[i64], at: Layout) -> bool {
+    let (head, mut rest) = words.split_at(at.account(0));
+    let mut columns = [Column::default(); PRODUCTS as usize];
+    let columns = &mut columns[..at.p];
+    for (column, product) in columns.iter_mut().zip(head[HEAD..].chunks_exact(PRODUCT)) {
+        column.book_limit = book_limit(product[CROSS] == 1);
     }
-    let mut sums = [0_i128; PRODUCTS as usize];
-    for record in accounts.chunks_exact(at.stride()) {
+    let (phase, mut house, mut a) = (head[PHASE], head[HOUSE_AT], 0);
+    while let Some((account, after)) = rest.split_at_checked(at.stride()) {
+        let Some((record, positions)) = account.split_first_chunk() else { return false };
         if !sound_record(record) {
             return false;
         }
-        let positions = record[RECORD..].chunks_exact(2);
-        for ((position, &limit), sum) in positions.zip(&books).zip(&mut sums) {
-            if !within(position[0], -LOTS, LOTS) || !within(position[1], -limit, limit) {
+        for (position, column) in positions.chunks_exact(2).zip(columns.iter_mut()) {
+            let (lots, book, limit) = (position[0], position[1], column.book_limit);
+            if !within(lots, -LOTS, LOTS) || !within(book, -limit, limit) {
                 return false;
             }
-            *sum += i128::from(position[0]);
+            column.lots += lots;
         }
+        if !sound_due(phase, a, record[DUE], &mut house) {
+            return false;
+        }
+        (rest, a) = (after, a + 1);
     }
-    sums.iter().all(|&sum| sum == 0)
+    columns.iter().all(|column| column.lots == 0)
 }
 
 /// Phase f of 1 or more: due 0 is zero in every account below f-1. Phase 1 to
-/// n: house stays in range after each step still to come.
-fn sound_run(words: &[i64], at: Layout) -> bool {
-    let phase = words[PHASE] as usize;
+/// n: house stays in range after each step still to come. The due has been
+/// tested, so no difference comes near 2^63.
+#[inline]
+fn sound_due(phase: i64, a: i64, due: i64, house: &mut i64) -> bool {
     if phase == 0 {
         return true;
     }
-    let ran = phase - 1;
-    (0..ran).all(|a| words[at.account(a) + DUE] == 0) && house_fits(words, at, ran)
-}
-
-/// Whether house stays in range after each of the transfers from account
-/// `from` on; with none left there is nothing to ask.
-pub fn house_fits(words: &[i64], at: Layout, from: usize) -> bool {
-    let mut house = i128::from(words[HOUSE_AT]);
-    (from..at.n).all(|a| {
-        house -= i128::from(words[at.account(a) + DUE]);
-        house.abs() <= i128::from(HOUSE)
-    })
+    if a < phase - 1 {
+        return due == 0;
+    }
+    *house -= due;
+    within(*house, -HOUSE, HOUSE)
 }

@@ -3,8 +3,9 @@
 //! This program is written from the paper alone and shares no line with the
 //! proved one. It serves as the yardstick: the proved program's replies, words,
 //! lists and sheets are compared with these, and its speed with this speed.
-//! Sums and products of figures are taken in `i128`, where none of them can
-//! leave the type, whatever words are lent.
+//! Every word is tested to be in range before anything is added to it. From
+//! then on the ranges of the paper bound each sum and product, and 64 bits hold
+//! all but one of them: a layer times a weight in loss sharing.
 
 pub mod calls;
 pub mod cases;
@@ -12,6 +13,8 @@ pub mod clerk;
 pub mod close;
 pub mod gen;
 pub mod harness;
+#[cfg(interface)]
+pub mod interface;
 pub mod ledger;
 pub mod limits;
 pub mod margin;
@@ -21,8 +24,6 @@ pub mod run;
 pub mod share;
 pub mod sheet;
 pub mod teller;
-#[cfg(interface)]
-pub mod interface;
 
 pub use calls::{deposit, guarantee, question, trade, withdraw};
 pub use close::close;
@@ -40,8 +41,8 @@ pub struct Reply {
 
 impl Reply {
     /// Number 0 with its figure.
-    pub fn done(figure: i128) -> Reply {
-        Reply { number: 0, figure: word(figure) }
+    pub const fn done(figure: i64) -> Reply {
+        Reply { number: 0, figure }
     }
 
     /// A refusal whose figure is 0: all of them but 11 and 12.
@@ -50,8 +51,8 @@ impl Reply {
     }
 
     /// A refusal that names a figure: 11 the limit, 12 the account.
-    pub fn refused_with(number: u64, figure: i128) -> Reply {
-        Reply { number, figure: word(figure) }
+    pub const fn refused_with(number: u64, figure: i64) -> Reply {
+        Reply { number, figure }
     }
 }
 
@@ -68,11 +69,4 @@ impl Answer {
     pub const fn refused(number: u64) -> Answer {
         Answer { number, limit: 0, first: 0, second: 0 }
     }
-}
-
-/// A figure as a word of the ledger. Every figure written from a sound ledger
-/// fits; one that did not would be an error here, and must not pass in silence.
-#[inline]
-pub fn word(figure: i128) -> i64 {
-    i64::try_from(figure).expect("a figure of a sound ledger fits a word")
 }

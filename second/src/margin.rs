@@ -11,74 +11,69 @@ pub const MARGIN_AT: usize = 4;
 pub const DUE: usize = 5;
 pub const RECORD: usize = 8;
 
-/// The figures of an account, wide enough for any sum of them.
+/// The figures of an account. In a sound record gross is at most 10^15, margin
+/// 8×10^12 and guarantee 10^12, so no sum of them comes near 2^63.
 #[derive(Clone, Copy, Debug)]
 pub struct Account {
     /// Kind 1, a liquidity provider; a broker otherwise.
     pub provider: bool,
-    pub cash: i128,
-    pub guarantee: i128,
-    pub cap: i128,
-    pub margin: i128,
-    pub due: [i128; 3],
+    pub cash: i64,
+    pub guarantee: i64,
+    pub cap: i64,
+    pub margin: i64,
+    pub due: [i64; 3],
 }
 
 impl Account {
     /// Reads the eight figures at the start of a record.
     #[inline]
     pub fn read(record: &[i64]) -> Account {
-        let figure = |at: usize| i128::from(record[at]);
-        Account {
-            provider: record[KIND] == 1,
-            cash: figure(CASH),
-            guarantee: figure(GUARANTEE_AT),
-            cap: figure(CAP),
-            margin: figure(MARGIN_AT),
-            due: [figure(DUE), figure(DUE + 1), figure(DUE + 2)],
-        }
+        let record: &[i64; RECORD] = record.first_chunk().expect("a record has eight figures");
+        let [kind, cash, guarantee, cap, margin, due0, due1, due2] = *record;
+        Account { provider: kind == 1, cash, guarantee, cap, margin, due: [due0, due1, due2] }
     }
 
     /// |cash| plus the absolute values of the three dues.
     #[inline]
-    pub fn gross(&self) -> i128 {
-        self.cash.abs() + self.due.iter().map(|due| due.abs()).sum::<i128>()
+    pub fn gross(&self) -> i64 {
+        gross(self.cash, self.due)
     }
 
     /// Source 001, article 17.
     #[inline]
-    pub fn lg_value(&self) -> i128 {
+    pub fn lg_value(&self) -> i64 {
         lg_value(self.guarantee, self.cap)
     }
 
     /// Cash and LG value (source 001, 2(2)).
     #[inline]
-    pub fn deposit(&self) -> i128 {
+    pub fn deposit(&self) -> i64 {
         self.cash + self.lg_value()
     }
 
     /// Initial margin less all three dues; negative figures stand (2(14)).
     #[inline]
-    pub fn required(&self) -> i128 {
-        self.margin - self.due.iter().sum::<i128>()
+    pub fn required(&self) -> i64 {
+        self.margin - self.due.iter().sum::<i64>()
     }
 
     /// Required less deposit, or 0.
     #[inline]
-    pub fn first_shortfall(&self) -> i128 {
+    pub fn first_shortfall(&self) -> i64 {
         (self.required() - self.deposit()).max(0)
     }
 
     /// F: what due 0 takes away; L: the next-day need; less cash, or 0
     /// (source 001, articles 2(16) and 6).
     #[inline]
-    pub fn second_shortfall(&self) -> i128 {
+    pub fn second_shortfall(&self) -> i64 {
         let need = if self.provider { self.next_day_need() } else { taken_away(self.due[0]) };
         (need - self.cash).max(0)
     }
 
     /// 0 unless due 1 is negative; then |due 1| less due 0, never below 0.
     #[inline]
-    fn next_day_need(&self) -> i128 {
+    fn next_day_need(&self) -> i64 {
         if self.due[1] < 0 {
             (self.due[1].abs() - self.due[0]).max(0)
         } else {
@@ -87,13 +82,13 @@ impl Account {
     }
 
     #[inline]
-    fn excess_one(&self) -> i128 {
+    fn excess_one(&self) -> i64 {
         self.deposit() - self.required()
     }
 
     /// The LG does not count here (source 001, article 8).
     #[inline]
-    fn excess_two(&self) -> i128 {
+    fn excess_two(&self) -> i64 {
         if self.provider {
             self.cash + self.due[1] - self.margin - taken_away(self.due[0])
         } else {
@@ -103,49 +98,44 @@ impl Account {
 
     /// The least of cash and both excesses, or 0 if that is negative.
     #[inline]
-    pub fn limit(&self) -> i128 {
+    pub fn limit(&self) -> i64 {
         self.cash.min(self.excess_one()).min(self.excess_two()).max(0)
     }
 }
 
-/// guarantee × 99 / 100 rounded down, at most the cap.
+/// |cash| plus the absolute values of the three dues, each of them far from
+/// 2^63.
 #[inline]
-pub fn lg_value(guarantee: i128, cap: i128) -> i128 {
-    floor_div(guarantee * 99, 100).min(cap)
+pub fn gross(cash: i64, [due0, due1, due2]: [i64; 3]) -> i64 {
+    cash.abs() + due0.abs() + due1.abs() + due2.abs()
+}
+
+/// guarantee × 99 / 100 rounded down, at most the cap; neither is negative.
+#[inline]
+pub fn lg_value(guarantee: i64, cap: i64) -> i64 {
+    (guarantee * 99 / 100).min(cap)
 }
 
 /// The absolute value of a negative due, else 0.
 #[inline]
-fn taken_away(due: i128) -> i128 {
+fn taken_away(due: i64) -> i64 {
     (-due).max(0)
 }
 
 /// Whether the eight figures of a record are in range, gross included, and an
 /// L has neither guarantee nor cap: what a single record needs to be sound.
+/// Gross is added up only when each of its four parts is within it.
 #[inline]
-pub fn sound_record(record: &[i64]) -> bool {
-    let size = |at: usize| u128::from(record[at].unsigned_abs());
-    let gross = size(CASH) + size(DUE) + size(DUE + 1) + size(DUE + 2);
-    within(record[KIND], 0, 1)
-        && within(record[GUARANTEE_AT], 0, GUARANTEE)
-        && within(record[CAP], 0, GUARANTEE)
-        && within(record[MARGIN_AT], 0, MARGIN)
-        && (record[KIND] == 0 || (record[GUARANTEE_AT] == 0 && record[CAP] == 0))
-        && gross <= GROSS as u128
-}
-
-/// Division rounded toward minus infinity, by a positive divisor. Figures that
-/// fit 64 bits take the machine's own division; both ways are exact.
-#[inline]
-pub fn floor_div(figure: i128, by: i64) -> i128 {
-    match i64::try_from(figure) {
-        Ok(small) => i128::from(small.div_euclid(by)),
-        Err(_) => figure.div_euclid(i128::from(by)),
-    }
-}
-
-/// Division rounded up, by a positive divisor.
-#[inline]
-pub fn ceil_div(figure: i128, by: i64) -> i128 {
-    -floor_div(-figure, by)
+pub fn sound_record(record: &[i64; RECORD]) -> bool {
+    let [kind, cash, guarantee, cap, margin, due0, due1, due2] = *record;
+    within(kind, 0, 1)
+        && within(guarantee, 0, GUARANTEE)
+        && within(cap, 0, GUARANTEE)
+        && (kind == 0 || (guarantee == 0 && cap == 0))
+        && within(margin, 0, MARGIN)
+        && within(cash, -GROSS, GROSS)
+        && within(due0, -GROSS, GROSS)
+        && within(due1, -GROSS, GROSS)
+        && within(due2, -GROSS, GROSS)
+        && gross(cash, [due0, due1, due2]) <= GROSS
 }

@@ -4,7 +4,7 @@ use crate::ledger::{self, HOUSE_AT};
 use crate::limits::TEXT;
 use crate::margin::Account;
 use crate::reader::{self, Bad, Day, Entry};
-use crate::{begin, close, deposit, guarantee, step, trade, withdraw, word, Reply};
+use crate::{begin, close, deposit, guarantee, step, trade, withdraw, Reply};
 
 /// The sheet of a text: `FXSHEET`, the answers, the accounts and house; or one
 /// `BAD` line. Every line is closed by a line feed, the `BAD` line too.
@@ -23,18 +23,18 @@ pub fn sheet(text: &[u8]) -> Vec<u8> {
     out.extend_from_slice(b"FXSHEET\n");
     for entry in &day.entries {
         let reply = perform(entry, &mut day.words, day.at.p, &day.figures);
-        put_number(&mut out, i128::from(reply.number), b' ');
-        put_number(&mut out, i128::from(reply.figure), b'\n');
+        put_number(&mut out, reply.number as i64, b' ');
+        put_number(&mut out, reply.figure, b'\n');
     }
     put_accounts(&mut out, &day);
     out.extend_from_slice(b"HOUSE ");
-    put_number(&mut out, i128::from(day.words[HOUSE_AT]), b'\n');
+    put_number(&mut out, day.words[HOUSE_AT], b'\n');
     out
 }
 
 fn bad(line: usize) -> Vec<u8> {
     let mut out = b"BAD ".to_vec();
-    put_number(&mut out, line as i128, b'\n');
+    put_number(&mut out, line as i64, b'\n');
     out
 }
 
@@ -61,7 +61,7 @@ fn perform(entry: &Entry, words: &mut [i64], p: usize, figures: &[i64]) -> Reply
 fn put_accounts(out: &mut Vec<u8>, day: &Day) {
     for a in 0..day.at.n {
         let account = Account::read(&day.words[day.at.account(a)..]);
-        put_number(out, a as i128, b' ');
+        put_number(out, a as i64, b' ');
         put_number(out, account.cash, b' ');
         for due in account.due {
             put_number(out, due, b' ');
@@ -72,23 +72,23 @@ fn put_accounts(out: &mut Vec<u8>, day: &Day) {
     }
 }
 
-/// A number in decimal, and the byte that follows it.
-fn put_number(out: &mut Vec<u8>, figure: i128, after: u8) {
-    let figure = word(figure);
-    if figure < 0 {
-        out.push(b'-');
-    }
-    let mut digits = [0; 20];
-    let mut from = digits.len();
+/// A number in decimal, and the byte that follows it, put together from the
+/// end: a sign, at most 19 digits and that byte.
+fn put_number(out: &mut Vec<u8>, figure: i64, after: u8) {
+    let mut bytes = [after; 21];
+    let mut from = bytes.len() - 1;
     let mut rest = figure.unsigned_abs();
     loop {
         from -= 1;
-        digits[from] = b'0' + (rest % 10) as u8;
+        bytes[from] = b'0' + (rest % 10) as u8;
         rest /= 10;
         if rest == 0 {
             break;
         }
     }
-    out.extend_from_slice(&digits[from..]);
-    out.push(after);
+    if figure < 0 {
+        from -= 1;
+        bytes[from] = b'-';
+    }
+    out.extend_from_slice(&bytes[from..]);
 }

@@ -3,7 +3,7 @@
 
 use crate::limits::{within, AMOUNT, GROSS};
 use crate::margin::{sound_record, Account, CASH, RECORD};
-use crate::{word, Reply};
+use crate::Reply;
 
 /// 1, 5, 10; the figure is the new cash.
 pub fn deposit(record: &mut [i64; RECORD], amount: i64) -> Reply {
@@ -31,11 +31,11 @@ pub fn withdraw(record: &mut [i64; RECORD], amount: i64) -> Reply {
 /// afterwards: where cash is negative a deposit lowers it.
 pub(crate) fn pay_in(record: &mut [i64], amount: i64) -> Reply {
     let mut account = Account::read(record);
-    account.cash += i128::from(amount);
-    if account.gross() > i128::from(GROSS) {
+    account.cash += amount;
+    if account.gross() > GROSS {
         return Reply::refused(10);
     }
-    record[CASH] = word(account.cash);
+    record[CASH] = account.cash;
     Reply::done(account.cash)
 }
 
@@ -43,10 +43,9 @@ pub(crate) fn pay_in(record: &mut [i64], amount: i64) -> Reply {
 pub(crate) fn pay_out(record: &mut [i64], amount: i64) -> Reply {
     let account = Account::read(record);
     let limit = account.limit();
-    if i128::from(amount) > limit {
+    if amount > limit {
         return Reply::refused_with(11, limit);
     }
-    let cash = account.cash - i128::from(amount);
-    record[CASH] = word(cash);
-    Reply::done(cash)
+    record[CASH] = account.cash - amount;
+    Reply::done(record[CASH])
 }

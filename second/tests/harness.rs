@@ -91,7 +91,7 @@ impl Clerk for CountsTheLetterTwice {
             if !a.provider {
                 let two = a.deposit() + a.due[0] - a.margin;
                 let one = a.deposit() - a.required();
-                answer.limit = a.cash.min(one).min(two).max(0) as i64;
+                answer.limit = a.cash.min(one).min(two).max(0);
             }
         }
         answer
@@ -105,7 +105,7 @@ impl Clerk for HoldsRequiredAtZero {
         let mut answer = second::question(words, account);
         if let (0, Some(at)) = (answer.number, sound(words)) {
             let a = Account::read(&words[at.account(account as usize)..]);
-            answer.first = (a.required().max(0) - a.deposit()).max(0) as i64;
+            answer.first = (a.required().max(0) - a.deposit()).max(0);
         }
         answer
     }

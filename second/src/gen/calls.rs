@@ -141,9 +141,9 @@ fn deposit(rng: &mut Rng, words: &[i64], at: Layout) -> Call {
     if let (Some(named), true) = (named(words, at, account), rng.one_in(3)) {
         // What brings gross to 10^15, or a yen beside it.
         let dues = named.gross() - named.cash.abs();
-        let room = i128::from(GROSS) - dues - named.cash + i128::from(rng.between(-1, 1));
-        if (0..=i128::from(AMOUNT) + 1).contains(&room) {
-            amount = room as i64;
+        let room = GROSS - dues - named.cash + rng.between(-1, 1);
+        if (0..=AMOUNT + 1).contains(&room) {
+            amount = room;
         }
     }
     Call::Deposit { account, amount }
@@ -153,7 +153,7 @@ fn withdraw(rng: &mut Rng, words: &[i64], at: Layout) -> Call {
     let account = number(rng, at.n);
     let mut amount = argument(rng, 1, AMOUNT);
     if let (Some(named), true) = (named(words, at, account), rng.coin()) {
-        let limit = named.limit() as i64;
+        let limit = named.limit();
         amount = match rng.below(3) {
             0 => limit.max(1),
             1 => limit + 1,
@@ -276,10 +276,10 @@ pub fn close_at_the_edge(rng: &mut Rng, words: &mut [i64]) -> Option<Call> {
     let now = Account::read(&words[record..]);
     let then = Account::read(&after[record..]);
     let rest = |of: &Account| of.gross() - of.cash.abs();
-    let cash = i128::from(GROSS) - rest(&then) + i128::from(rng.between(0, 1));
-    if cash < 0 || cash + rest(&now) > i128::from(GROSS) {
+    let cash = GROSS - rest(&then) + rng.between(0, 1);
+    if cash < 0 || cash + rest(&now) > GROSS {
         return None;
     }
-    words[record + CASH] = (if rng.coin() { cash } else { -cash }) as i64;
+    words[record + CASH] = if rng.coin() { cash } else { -cash };
     Some(call)
 }

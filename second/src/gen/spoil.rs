@@ -180,7 +180,7 @@ fn cross_names(rng: &mut Rng, words: &mut Vec<i64>, at: Layout) -> bool {
 fn gross(rng: &mut Rng, words: &mut Vec<i64>, at: Layout) -> bool {
     let record = at.account(rng.below(at.n));
     let place = record + rng.pick(&[CASH, DUE, DUE + 1, DUE + 2]);
-    let rest = Account::read(&words[record..]).gross() as i64 - words[place].abs();
+    let rest = Account::read(&words[record..]).gross() - words[place].abs();
     let size = GROSS + 1 - rest + rng.pick(&[0, 0, 1, GROSS]);
     put(words, place, if rng.coin() { size } else { -size })
 }
@@ -243,7 +243,7 @@ fn due_behind(rng: &mut Rng, words: &mut Vec<i64>, at: Layout) -> bool {
     }
     let record = at.account(rng.below(behind));
     let account = Account::read(&words[record..]);
-    account.gross() < i128::from(GROSS) && put(words, record + DUE, rng.pick(&[1, -1]))
+    account.gross() < GROSS && put(words, record + DUE, rng.pick(&[1, -1]))
 }
 
 /// House one yen past what some step of the run would bear.
