@@ -3,7 +3,7 @@ use mathlib.Core.Path.{_≡_, refl, sym, ap, _∙_}
 use mathlib.Core.Bool.{Bool, true}
 use mathlib.Core.Logic.{_⊎_, inl, inr, ⊎-elim}
 use Prim.Native.Nat.{ℕ, _+_, _*_, _≤_, _<_}
-use native.Mathlib.Nat.{div-add-mod', mod-lt, mul-zero, zero-mul, mul-comm, le-of-mul-le-mul-right, add-zero, lt-of-mul-lt-mul-right, mul-le-mul-left}
+use native.Mathlib.Nat.{div-add-mod', mod-lt, mul-zero, zero-mul, mul-comm, le-of-mul-le-mul-right, add-zero, lt-of-mul-lt-mul-right, mul-le-mul-left, mul-div-cancel-left}
 use native.Mathlib.Omega.{arith}
 use lib.Dec.{ltb}
 use borrow.Author.Tests.{ltb-true, ltb-false, lt-ltb, eq-eqb, ne-eqb}
@@ -114,6 +114,17 @@ module _ (n : ℕ) (weight : ℕ → ℕ) (amount : ℕ) (some : 0 < total n wei
       (λ e. rw e (omega (arith, parts i, some)))
       (λ e. rw (e .0) (omega (arith, parts i, extra-some i (e .1))))
       (share-cases i)
+
+  -- where the amount is the sum of the weights each floor is the weight, no yen is left, and so each share is the weight
+  floor-all : amount ≡ whole → (i : ℕ) → floor i ≡ weight i
+  unfolding floorOf
+  floor-all e i = rw e (mul-div-cancel-left (weight i) some)
+
+  left-none : amount ≡ whole → left n weight amount ≤ 0
+  left-none e = omega (arith, left-is, total-same n floor weight (λ i b. floor-all e i))
+
+  pub share-all : amount ≡ whole → (i : ℕ) → shareOf n weight amount i ≡ weight i
+  share-all e i = ⊎-elim (λ h. h ∙ floor-all e i) (λ h. absurd (omega (arith, left-none e, h .1))) (share-cases i)
 
   -- who comes first, with no lower floor, gets no less
   pub first-more : (i j : ℕ) → i < n → before rem i j ≡ true → floor j ≤ floor i → shareOf n weight amount j ≤ shareOf n weight amount i

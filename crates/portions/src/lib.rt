@@ -159,6 +159,18 @@ fn clear(out: &mut [i64])
     }
 }
 
+// Each member's share is his whole weight.
+fn give_all(weights: &[u64], out: &mut [i64])
+    requires { ⌜ Weights (now weights) ⌝ ∗ ⌜ length (now out) ≡ length (now weights) ⌝ }
+    ensures { λ _. ⌜ now (out .exit) ≡ listed (length (now (weights .entry))) (λ i. pos (S.ofMember (now (weights .entry)) i)) ⌝ }
+{
+    let mut i: usize = 0;
+    while i < weights.len() {
+        out[i] = weights[i] as i64;
+        i += 1;
+    }
+}
+
 // The same with room lent for the remainders, where there is something to share and somebody to share it.
 fn share_with(amount: u64, sum: u64, weights: &[u64], remainders: &mut [u64], out: &mut [i64])
     requires { ⌜ Weights (now weights) ⌝ ∗ ⌜ amount ≤ most-amount ⌝ ∗ ⌜ length (now out) ≡ length (now weights) ⌝ ∗ ⌜ sum ≡ S.sumOf (now weights) ⌝ }
@@ -182,6 +194,11 @@ pub fn share(amount: u64, sum: u64, weights: &[u64], out: &mut [i64])
     }
     if sum == 0 {
         clear(out);
+        return;
+    }
+    // A layer that takes all that the members have: nothing to divide, and no yen left.
+    if amount == sum {
+        give_all(weights, out);
         return;
     }
     if weights.len() <= 8 {
