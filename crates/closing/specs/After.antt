@@ -17,7 +17,7 @@ use Rattle.places.specs.PlaceLaws.{each-map, each-append, each-each}
 use Rattle.places.specs.Passes.{Agree, Off, unseen, Leaves, Elsewhere, leaves-put, leaves-later, leaves-after, leaves-each}
 use Rattle.daily.specs.DailyFigures.{newDue, newMargin, newBook}
 use Rattle.closing.specs.Close.{duePuts, bookPuts, pricePuts, accountPuts, closePuts}
-use Rattle.closing.specs.Seen.{accountSees, account-at, account-off}
+use Rattle.closing.specs.Written.{accountSees, account-at, account-off}
 
 -- the places that a close leaves alone: all but the phase, the prices, the margins, the dues and the books
 abbrev pub closeKeeps : Place → Bool

@@ -87,7 +87,7 @@ module _ (prices rates8 rates104 lags : List ℤ) (s : Shape) (g g′ : View) (f
   margin-keeps : (a : ℕ) → a < s .n → between (pos 0) (pos mostMargin) (g′ (margin a)) ≡ true
   unfolding newMargin
   margin-keeps a h =
-      let c = charges-in prices rates8 rates104 s g a (is-ready .row a h) (rates-of prices rates8 rates104 lags s g ok fig (long .rates8-long) (long .rates104-long)) (s .p) (omega arith) in
+      let c = charges-in prices rates8 rates104 s g a (is-ready .named) (is-ready .row a h) (rates-of prices rates8 rates104 lags s g ok fig (long .rates8-long) (long .rates104-long)) (s .p) (omega arith) in
       ap (between (pos 0) (pos mostMargin)) (f .margin-new a h) ∙ is-in 0 mostMargin (total (s .p) (charge prices rates8 rates104 g a)) (omega arith) (omega arith)
 
   -- no account was over

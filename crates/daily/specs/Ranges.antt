@@ -1,18 +1,18 @@
 -- The figures that a close computes on a sound ledger stay within 64 bits: `Row` is what is known of an account's positions and their products,
--- `part-in`, `due-in` and `charges-in` the bounds of the new dues and of the new margin, `ready` how all of it follows. Assumes nothing.
+-- `sum-in` and `charges-in` the bounds of what is added to a due and of the new margin, `ready` how all of it follows. Assumes nothing.
 use mathlib.Core.List.{List}
 use mathlib.Core.Bool.{Bool, true, false, cond, not, _&&_}
 use mathlib.Core.Path.{_≡_, refl}
 use Prim.Native.Nat.{ℕ, zero, suc, _+_, _-_, _*_, _≤_, _<_}
 use native.Mathlib.Omega.{arith}
 use lib.Dec.{ltb, eqb}
-use lib.IntN.{ℤ, pos, natAbs, _+ℤ_}
+use lib.IntN.{ℤ, pos, natAbs}
 use lib.ListN.{length}
 use borrow.Author.Tests.{eqb-true, ltb-true}
 use Rattle.whole.specs.Number.{within, between, is, isOneOf}
 use Rattle.whole.specs.Counting.{all, sum, total, figureAt}
 use Rattle.whole.specs.CountingLaws.{all-at, sum-abs, total-most}
-use Rattle.whole.specs.Tests.{both, InRange, in-range, is-one-of, within-true, abs-add}
+use Rattle.whole.specs.Tests.{both, InRange, in-range, is-one-of, within-true}
 use Rattle.rules.specs.Sizes.{isYen, mostPrice, mostBook, mostLots, mostRate, mostGross}
 use Rattle.rules.specs.Product.{rateOf}
 use Rattle.rules.specs.ProductLaws.{Fair, fair-in, rate-in, margin-in, price-most}
@@ -23,25 +23,28 @@ use Rattle.places.specs.Act.{mostProducts}
 use Rattle.places.specs.Place.{Place, View, dues, productKind, floorMark, price, principal, quote, cash, due, lots, book}
 use Rattle.soundness.specs.Sound.{accountAt, productOk, namesYen, yenPair, crossPair, pairOk}
 use Rattle.soundness.specs.SoundLaws.{Facts}
-use Rattle.daily.specs.DailyFigures.{lengthsOk, figureOk, difference, addedTo, nextDue, newDue, charge}
+use Rattle.daily.specs.DailyFigures.{lengthsOk, figureOk, difference, addedTo, nextDue, charge}
 
 -- the number of the product whose price is Y, by the words of the product j (`yenProduct`)
 abbrev yenOf : ℤ → ℕ → ℤ → ℕ
 yenOf kind j principal = cond (isYen kind) j (natAbs principal)
 
 -- ---- what is known of an account's position in the product j
-pub record Cell (p : ℕ) (prices : List ℤ) (j : ℕ) (kind lots book principal quote : ℤ) : Type 0 where
+pub record Cell (prices : List ℤ) (j : ℕ) (kind lots book quote : ℤ) : Type 0 where
   pub lots-in : natAbs lots ≤ mostLots
   pub book-in : natAbs book ≤ mostBook kind
   pub price-in : InRange 1 (mostPrice kind) (figureAt prices j)
-  pub quote-in : natAbs quote < p
-  pub yen-in : yenOf kind j principal < p
   pub quote-price : InRange 1 5000000 (figureAt prices (natAbs quote))
-  pub yen-price : InRange 1 5000000 (figureAt prices (yenOf kind j principal))
 
 pub record Row (prices : List ℤ) (s : Shape) (g : View) (a : ℕ) : Type 0 where
+  pub at : (j : ℕ) → j < s .p → Cell prices j (g (productKind j)) (g (lots a j)) (g (book a j)) (g (quote j))
+
+-- ---- what is known of the products: a price for each, and those that the quote and Y name among them
+pub record Named (prices : List ℤ) (s : Shape) (g : View) : Type 0 where
   pub priced : length prices ≡ s .p
-  pub at : (j : ℕ) → j < s .p → Cell (s .p) prices j (g (productKind j)) (g (lots a j)) (g (book a j)) (g (principal j)) (g (quote j))
+  pub quote-in : (j : ℕ) → j < s .p → natAbs (g (quote j)) < s .p
+  pub yen-in : (j : ℕ) → j < s .p → yenOf (g (productKind j)) j (g (principal j)) < s .p
+  pub yen-price : (j : ℕ) → j < s .p → InRange 1 5000000 (figureAt prices (yenOf (g (productKind j)) j (g (principal j))))
 
 pub record Rates (p : ℕ) (rates8 rates104 : List ℤ) : Type 0 where
   pub long8 : length rates8 ≡ p
@@ -77,6 +80,10 @@ lengths-of prices rates8 rates104 lags p e =
       lags-long = eqb-true (length lags) p (h .1);
     }
 
+-- the most that a close adds to a due, in size
+abbrev pub mostAdded : ℕ
+mostAdded = 480000000000000
+
 -- ---- the new words of an account whose row is known
 
 module _ (prices : List ℤ) (s : Shape) (g : View) (a : ℕ) (r : Row prices s g a) where
@@ -90,22 +97,16 @@ module _ (prices : List ℤ) (s : Shape) (g : View) (a : ℕ) (r : Row prices s 
       go true = fair-in (g (productKind j)) (g (lots a j)) (g (book a j)) (figureAt prices j) (figureAt prices (natAbs (g (quote j)))) (fair j h)
       go false = omega arith
 
-  -- the next due, with what the first j products add
-  pub part-in : (lags : List ℤ) (d j : ℕ) → s .p ≤ mostProducts → j ≤ s .p → natAbs (nextDue g a d) ≤ mostGross → natAbs (nextDue g a d +ℤ sum j (addedTo prices lags g a d)) ≤ 1480000000000000
-  part-in lags d j few h n =
-      let m = sum-abs 30000000000000 j (addedTo prices lags g a d) (λ i k. added-in lags d i (omega arith)) in
-      omega (arith, abs-add (nextDue g a d) (sum j (addedTo prices lags g a d)))
+  -- what the first j products add to a due
+  pub sum-in : (lags : List ℤ) (d j : ℕ) → s .p ≤ mostProducts → j ≤ s .p → natAbs (sum j (addedTo prices lags g a d)) ≤ mostAdded
+  sum-in lags d j few h = omega (arith, sum-abs 30000000000000 j (addedTo prices lags g a d) (λ i k. added-in lags d i (omega arith)))
 
-  pub due-in : (lags : List ℤ) (d : ℕ) → s .p ≤ mostProducts → natAbs (nextDue g a d) ≤ mostGross → natAbs (newDue prices lags s g a d) ≤ 1480000000000000
-  unfolding newDue
-  due-in lags d few n = part-in lags d (s .p) few (omega arith) n
-
-module _ (prices rates8 rates104 : List ℤ) (s : Shape) (g : View) (a : ℕ) (r : Row prices s g a) (t : Rates (s .p) rates8 rates104) where
+module _ (prices rates8 rates104 : List ℤ) (s : Shape) (g : View) (a : ℕ) (n : Named prices s g) (r : Row prices s g a) (t : Rates (s .p) rates8 rates104) where
   charge-in : (j : ℕ) → j < s .p → charge prices rates8 rates104 g a j ≤ 500000000000
   charge-in j h =
       let c = r .at j h in
       let k = rate-in (g (floorMark j)) (figureAt rates8 j) (figureAt rates104 j) (t .in8 j h) (t .in104 j h) in
-      margin-in (g (lots a j)) (figureAt prices (yenOf (g (productKind j)) j (g (principal j)))) (rateOf (g (floorMark j)) (figureAt rates8 j) (figureAt rates104 j)) (c .lots-in) (c .yen-price .high) (k .high)
+      margin-in (g (lots a j)) (figureAt prices (yenOf (g (productKind j)) j (g (principal j)))) (rateOf (g (floorMark j)) (figureAt rates8 j) (figureAt rates104 j)) (c .lots-in) (n .yen-price j h .high) (k .high)
 
   -- the margin of the first j products
   pub charges-in : (j : ℕ) → j ≤ s .p → total j (charge prices rates8 rates104 g a) ≤ j * 500000000000
@@ -149,7 +150,7 @@ module _ (prices rates8 rates104 lags : List ℤ) (s : Shape) (g : View) (ok : F
   pub figure : (j : ℕ) → j < s .p → InFigures prices rates8 rates104 lags g j
   figure j h = figures prices rates8 rates104 lags g j (all-at (s .p) (figureOk prices rates8 rates104 lags g) fig j h)
 
-  any-price : (j : ℕ) → j < s .p → InRange 1 5000000 (figureAt prices j)
+  pub any-price : (j : ℕ) → j < s .p → InRange 1 5000000 (figureAt prices j)
   any-price j h = let f = figure j h .0 in record { low = f .low; high = omega (arith, price-most (g (productKind j))); nat = f .nat }
 
   pub rates-of : length rates8 ≡ s .p → length rates104 ≡ s .p → Rates (s .p) rates8 rates104
@@ -158,21 +159,29 @@ module _ (prices rates8 rates104 lags : List ℤ) (s : Shape) (g : View) (ok : F
   pub lags-of : length lags ≡ s .p → Lags (s .p) lags
   lags-of e = record { long = e; names = λ j h. let f = figure j h .3 in omega (arith, f .high) }
 
-  row-of : length prices ≡ s .p → (a : ℕ) → a < s .n → Row prices s g a
-  row-of e a h = record { priced = e; at = cell }
+  names : (j : ℕ) → j < s .p → (natAbs (g (quote j)) < s .p) × (yenOf (g (productKind j)) j (g (principal j)) < s .p)
+  names j h = named-in (s .p) g j (ok .product j h) h
+
+  named-of : length prices ≡ s .p → Named prices s g
+  named-of e =
+      record {
+        priced = e;
+        quote-in = λ j h. names j h .0;
+        yen-in = λ j h. names j h .1;
+        yen-price = λ j h. any-price (yenOf (g (productKind j)) j (g (principal j))) (names j h .1);
+      }
+
+  row-of : (a : ℕ) → a < s .n → Row prices s g a
+  row-of a h = record { at = cell }
     where
-      cell : (j : ℕ) → j < s .p → Cell (s .p) prices j (g (productKind j)) (g (lots a j)) (g (book a j)) (g (principal j)) (g (quote j))
+      cell : (j : ℕ) → j < s .p → Cell prices j (g (productKind j)) (g (lots a j)) (g (book a j)) (g (quote j))
       cell j k =
           let o = both (within mostLots (g (lots a j))) (within (mostBook (g (productKind j))) (g (book a j))) (ok .held a j h k) in
-          let m = named-in (s .p) g j (ok .product j k) k in
           record {
             lots-in = within-true mostLots (g (lots a j)) (o .0);
             book-in = within-true (mostBook (g (productKind j))) (g (book a j)) (o .1);
             price-in = figure j k .0;
-            quote-in = m .0;
-            yen-in = m .1;
-            quote-price = any-price (natAbs (g (quote j))) (m .0);
-            yen-price = any-price (yenOf (g (productKind j)) j (g (principal j))) (m .1);
+            quote-price = any-price (natAbs (g (quote j))) (names j k .0);
           }
 
 -- a sound account's dues
@@ -192,16 +201,32 @@ next-in g a d h = go (ltb (d + 1) dues) refl
     go true e = h .at (d + 1) (ltb-true (d + 1) dues e)
     go false e = omega arith
 
--- of each account
+-- each account's cash, and all lots
+pub record CashIn (s : Shape) (g : View) : Type 0 where
+  pub at : (a : ℕ) → a < s .n → natAbs (g (cash a)) ≤ mostGross
+
+-- each account's dues
+pub record EveryDueIn (s : Shape) (g : View) : Type 0 where
+  pub at : (a : ℕ) → a < s .n → EachDueIn g a
+
+pub record LotsIn (s : Shape) (g : View) : Type 0 where
+  pub at : (a j : ℕ) → a < s .n → j < s .p → natAbs (g (lots a j)) ≤ mostLots
+
+-- of the products, and of each account
 pub record Ready (prices : List ℤ) (s : Shape) (g : View) : Type 0 where
+  pub named : Named prices s g
   pub row : (a : ℕ) → a < s .n → Row prices s g a
-  pub dues-in : (a : ℕ) → a < s .n → EachDueIn g a
-  pub cash-in : (a : ℕ) → a < s .n → natAbs (g (cash a)) ≤ mostGross
+  pub dues-in : EveryDueIn s g
+  pub cash-in : CashIn s g
 
 pub ready : (prices rates8 rates104 lags : List ℤ) (s : Shape) (g : View) → Facts s g → all (s .p) (figureOk prices rates8 rates104 lags g) ≡ true → length prices ≡ s .p → Ready prices s g
 ready prices rates8 rates104 lags s g ok fig e =
     record {
-      row = row-of prices rates8 rates104 lags s g ok fig e;
-      dues-in = λ a h. dues-of g a (ok .account a h);
-      cash-in = λ a h. account-facts (accountAt g a) (ok .account a h) .cash-in;
+      named = named-of prices rates8 rates104 lags s g ok fig e;
+      row = row-of prices rates8 rates104 lags s g ok fig;
+      dues-in = record { at = λ a h. dues-of g a (ok .account a h) };
+      cash-in = record { at = λ a h. account-facts (accountAt g a) (ok .account a h) .cash-in };
     }
+
+pub lots-of : (prices : List ℤ) (s : Shape) (g : View) → Ready prices s g → LotsIn s g
+lots-of prices s g r = record { at = λ a j h k. r .row a h .at j k .lots-in }

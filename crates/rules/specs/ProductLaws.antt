@@ -3,11 +3,11 @@ use mathlib.Core.Bool.{Bool, true, false, cond}
 use mathlib.Core.Logic.{⊎-elim}
 use mathlib.Core.Path.{_≡_, refl, ap}
 use Prim.Native.Nat.{ℕ, zero, suc, _+_, _*_, _^_, _≤_}
-use native.Mathlib.Nat.{mul-le-mul}
+use native.Mathlib.Nat.{mul-le-mul, mul-assoc}
 use native.Mathlib.Omega.{arith}
 use lib.IntN.{ℤ, pos, negsuc, negℤ, natAbs, _*ℤ_}
 use lib.Signed.{leZ, _≤ℤ_}
-use Rattle.whole.specs.Number.{is, maxZ, nn}
+use Rattle.whole.specs.Number.{is, maxZ, nn, ceilDiv}
 use Rattle.whole.specs.Signs.{abs-is, le-true}
 use Rattle.whole.specs.Whole.{whole, facts, by}
 use Rattle.whole.specs.Tests.{InRange, abs-sub, true-or-false}
@@ -104,6 +104,27 @@ pub margin-in : (lots y rate : ℤ) → natAbs lots ≤ mostLots → natAbs y �
 margin-in lots y rate h i j =
     let m : natAbs lots * natAbs y * natAbs rate ≤ 50000000000000000 = mul-le-mul (mul-le-mul h i) j in
     omega arith
+
+-- ---- the margin by the margin of a lot
+
+-- Y × rate, what a lot's margin is before the division by 100,000
+abbrev pub lotMargin : ℤ → ℤ → ℕ
+lotMargin y rate = natAbs y * natAbs rate
+
+abbrev pub mostLotMargin : ℕ
+mostLotMargin = 5 * 10 ^ 10
+
+abbrev pub marginAt : ℤ → ℕ → ℕ
+marginAt lots single = ceilDiv (natAbs lots * single) 100000
+
+pub margin-by : (lots y rate : ℤ) → marginOf lots y rate ≡ marginAt lots (lotMargin y rate)
+margin-by lots y rate = ap (λ z. ceilDiv z 100000) (mul-assoc (natAbs lots) (natAbs y) (natAbs rate))
+
+pub lot-margin-in : (y rate : ℤ) → natAbs y ≤ 5000000 → natAbs rate ≤ mostRate → lotMargin y rate ≤ mostLotMargin
+lot-margin-in y rate h i = mul-le-mul h i
+
+pub margin-at-in : (lots : ℤ) (single : ℕ) → natAbs lots ≤ mostLots → single ≤ mostLotMargin → marginAt lots single ≤ 500000000000
+margin-at-in lots single h i = let m : natAbs lots * single ≤ 50000000000000000 = mul-le-mul h i in omega arith
 
 -- as the contracts ask a range
 pub at-least : (lo hi : ℕ) (z : ℤ) → InRange lo hi z → pos lo ≤ℤ z

@@ -18,7 +18,8 @@ pub fn is_broker(account: Account) -> bool
     whole::between(kind, 0, 0)
 }
 
-// Whether the sizes of cash and the three dues come to at most 10^15. Each is tested before it is added: no sum passes 64 bits.
+// Whether the sizes of cash and the three dues come to at most 10^15. Where none of them has a bit above the lowest 61, their sum cannot pass 64 bits;
+// where one has, it is too large by itself.
 fn gross_within(cash: i64, due0: i64, due1: i64, due2: i64) -> bool
     ensures { λ r. ⌜ r ≡ leb (natAbs cash + natAbs due0 + natAbs due1 + natAbs due2) mostGross ⌝ }
 {
@@ -26,16 +27,7 @@ fn gross_within(cash: i64, due0: i64, due1: i64, due2: i64) -> bool
     let due0_size = whole::nat_abs(due0);
     let due1_size = whole::nat_abs(due1);
     let due2_size = whole::nat_abs(due2);
-    if cash_size > sizes::MOST_GROSS {
-        return false;
-    }
-    if due0_size > sizes::MOST_GROSS {
-        return false;
-    }
-    if due1_size > sizes::MOST_GROSS {
-        return false;
-    }
-    if due2_size > sizes::MOST_GROSS {
+    if cash_size | due0_size | due1_size | due2_size >= 0x2000_0000_0000_0000 {
         return false;
     }
     cash_size + due0_size + due1_size + due2_size <= sizes::MOST_GROSS

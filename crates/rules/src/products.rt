@@ -5,7 +5,7 @@ ghost use lib.IntN.{pos, natAbs};
 ghost use lib.Signed.{_≤ℤ_};
 ghost use Rattle.rules.specs.Sizes.{isYen, mostPrice, mostBook, mostLots, mostRate};
 ghost use Rattle.rules.specs.Product.{leastRate, rateOf, yenProduct, marginOf, differenceOf};
-ghost use Rattle.rules.specs.ProductLaws.{Fair};
+ghost use Rattle.rules.specs.ProductLaws.{Fair, lotMargin, marginAt, mostLotMargin};
 use crate::Product;
 use crate::sizes;
 
@@ -64,6 +64,24 @@ pub fn yen_product(product: Product, j: usize) -> usize
     whole::nat_abs(principal) as usize
 }
 
+// The margin of one lot, before the division by 100,000 and its rounding: Y × rate. The same for every position in a product.
+pub fn lot_margin(y: i64, rate: i64) -> u64
+    requires { ⌜ pos 1 ≤ℤ y ⌝ ∗ ⌜ y ≤ℤ pos 5000000 ⌝ }
+    requires { ⌜ pos 1 ≤ℤ rate ⌝ ∗ ⌜ rate ≤ℤ pos mostRate ⌝ }
+    ensures { λ r. ⌜ r ≡ lotMargin y rate ⌝ }
+{
+    whole::up(y) * whole::up(rate)
+}
+
+// The margin of a position, rounded up, by the margin of a lot of its product.
+pub fn margin_at(lots: i64, single: u64) -> u64
+    requires { ⌜ natAbs lots ≤ mostLots ⌝ }
+    requires { ⌜ single ≤ mostLotMargin ⌝ }
+    ensures { λ r. ⌜ r ≡ marginAt lots single ⌝ }
+{
+    whole::ceil_lakh(whole::nat_abs(lots) * single)
+}
+
 // Source 001, 2(13): the margin of a position, rounded up.
 pub fn margin_of(lots: i64, y: i64, rate: i64) -> i64
     requires { ⌜ natAbs lots ≤ mostLots ⌝ }
@@ -71,8 +89,7 @@ pub fn margin_of(lots: i64, y: i64, rate: i64) -> i64
     requires { ⌜ pos 1 ≤ℤ rate ⌝ ∗ ⌜ rate ≤ℤ pos mostRate ⌝ }
     ensures { λ r. ⌜ r ≡ pos (marginOf lots y rate) ⌝ }
 {
-    let unrounded = whole::nat_abs(lots) * whole::up(y) * whole::up(rate);
-    whole::ceil_lakh(unrounded) as i64
+    margin_at(lots, lot_margin(y, rate)) as i64
 }
 
 // The daily difference of a position, in yen, rounded down toward minus infinity: a loss is never made smaller.

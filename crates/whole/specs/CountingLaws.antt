@@ -70,6 +70,12 @@ least-most (suc n) f = go (f 0) (least-most n (λ k. f (suc k)))
     go true h = omega arith
     go false h = omega arith
 
+-- two tests that agree below n
+pub least-same : (n : ℕ) (f g : ℕ → Bool) → ((i : ℕ) → i < n → f i ≡ g i) → least n f ≡ least n g
+least-same zero f g h = refl
+least-same (suc n) f g h =
+    ap₂ (λ t m. cond t 0 (suc m)) (h 0 (omega arith)) (least-same n (λ k. f (suc k)) (λ k. g (suc k)) (λ i k. h (suc i) (omega arith)))
+
 least-step : (n : ℕ) (f : ℕ → Bool) → (least n (λ k. f (suc k)) ≡ n → (i : ℕ) → i < n → f (suc i) ≡ false) → least (suc n) f ≡ suc n → (i : ℕ) → i < suc n → f i ≡ false
 least-step n f more e = go (f 0) refl
   where

@@ -1,6 +1,6 @@
 // Signed whole numbers: tests of range, size, sums and differences, the two ways of rounding. Every contract is exact.
 ghost use mathlib.Core.Path.{_≡_};
-ghost use Prim.Native.Nat.{_≤_, _<_, _^_};
+ghost use Prim.Native.Nat.{_*_, _≤_, _<_, _^_};
 ghost use lib.IntN.{pos, natAbs, _+ℤ_, _-ℤ_};
 ghost use lib.Signed.{_≤ℤ_};
 ghost use Rattle.whole.specs.Number as N;
@@ -27,11 +27,13 @@ pub fn nat_abs(x: i64) -> u64
     if x < 0 { up(0 - (x + 1)) + 1 } else { up(x) }
 }
 
-// Whether x is at most `most` in size.
+// Whether x is at most `most` in size: two comparisons, and no size is worked out.
 pub fn within(x: i64, most: u64) -> bool
+    requires { ⌜ most < 2 ^ 63 ⌝ }
     ensures { λ r. ⌜ r ≡ N.within most x ⌝ }
 {
-    nat_abs(x) <= most
+    let top = most as i64;
+    between(x, 0 - top, top)
 }
 
 // Whether x is the number of one of n things, counted from 0.
@@ -79,26 +81,28 @@ pub fn takes_away(x: i64) -> i64
     if x < 0 { 0 - x } else { 0 }
 }
 
+// To round down, a number is moved up by so many whole units that it is not below 0, where dividing rounds down, and the units are taken off again: one
+// division, and no test of a sign that nobody can foretell.
+const MOVED_UP: i64 = 4000000000000000000;
+
+const TENS: i64 = MOVED_UP / 10;
+
+const LAKHS: i64 = MOVED_UP / 100000;
+
 // raw / 10 rounded down, toward minus infinity.
 pub fn floor_ten(raw: i64) -> i64
+    requires { ⌜ natAbs raw ≤ 4 * 10 ^ 18 ⌝ }
     ensures { λ r. ⌜ r ≡ N.floorDiv raw 10 ⌝ }
 {
-    if raw < 0 {
-        (raw + 1) / 10 - 1
-    } else {
-        raw / 10
-    }
+    (up(raw + MOVED_UP) / 10) as i64 - TENS
 }
 
 // raw / 100,000 rounded down, toward minus infinity.
 pub fn floor_lakh(raw: i64) -> i64
+    requires { ⌜ natAbs raw ≤ 4 * 10 ^ 18 ⌝ }
     ensures { λ r. ⌜ r ≡ N.floorDiv raw 100000 ⌝ }
 {
-    if raw < 0 {
-        (raw + 1) / 100000 - 1
-    } else {
-        raw / 100000
-    }
+    (up(raw + MOVED_UP) / 100000) as i64 - LAKHS
 }
 
 // x / 100,000 rounded up.

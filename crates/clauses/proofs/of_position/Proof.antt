@@ -1,9 +1,13 @@
 -- Lots and book, read once each.
 use borrow.Author.Needs.{needs}
 use mathlib.Core.Path.{ap, ap₂, _∙_}
+use native.Mathlib.Omega.{arith}
+use mir.Syntax.{w64}
+use mir.Val.{toZ, ofZ}
 use Rattle.whole.specs.Number.{within}
 use Rattle.whole.specs.Signs.{came}
 use Rattle.rules.specs.Sizes.{mostLots, mostBook}
+use Rattle.rules.specs.ProductLaws.{book-most}
 use Rattle.places.specs.Place.{get, productKind, lots, book}
 use Rattle.places.specs.ByAccount.{byAccount}
 use Rattle.clauses.specs.ClauseLaws.{figured, tested}
@@ -23,7 +27,7 @@ most-book-requires : tie.Need-most-book-requires
 most-book-requires c κs = search needs
 
 within-requires : tie.Need-within-requires
-within-requires c κs = search needs
+within-requires c κs = omega (arith, c .most-book .ensures, book-most (toZ w64 (ofZ w64 (c .before .before .before .prod-word .result))))
 
 fails-requires : tie.Need-fails-requires
 fails-requires c κs = search needs

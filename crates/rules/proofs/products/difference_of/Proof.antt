@@ -1,7 +1,8 @@
 -- `rules::products::difference_of` meets its contract: each product on the way fits 64 bits, by `ProductLaws`. Assumes nothing.
 use mathlib.Core.Path.{_≡_, sym, ap, _∙_}
+use Prim.Native.Nat.{_≤_}
 use native.Mathlib.Omega.{arith}
-use lib.IntN.{ℤ, _-ℤ_, _*ℤ_}
+use lib.IntN.{ℤ, natAbs, _-ℤ_, _*ℤ_}
 use mir.Syntax.{w64}
 use mir.Val.{SFits, toZ, ofZ}
 use Rattle.whole.specs.Number.{floorDiv}
@@ -29,8 +30,11 @@ raw-is s = rw (arg (s .fits .lots), arg (s .fits .price), arg (times-fits s), ar
 test : (c : tie.After-is-yen) → isYen (c .before .args .kind) ≡ c .is-yen .result
 test c = sym (c .is-yen .ensures ∙ ap isYen (arg (c .before .fits .kind)))
 
+quoted-most : (c : tie.Else1) → let s = c .before .before in natAbs (raw s *ℤ s .args .quoted) ≤ 3000000000000000000
+quoted-most c = let s = c .before .before in let a = s .args in quoted-cross (a .kind) (a .lots) (a .book) (a .price) (a .quoted) (s .pre) (test (c .before) ∙ c .if1 .left)
+
 quoted-fits : (c : tie.Else1) → let s = c .before .before in SFits w64 (raw s *ℤ s .args .quoted)
-quoted-fits c = let s = c .before .before in let a = s .args in small (raw s *ℤ a .quoted) 3000000000000000000 (quoted-cross (a .kind) (a .lots) (a .book) (a .price) (a .quoted) (s .pre) (test (c .before) ∙ c .if1 .left)) (omega arith)
+quoted-fits c = let s = c .before .before in small (raw s *ℤ s .args .quoted) 3000000000000000000 (quoted-most c) (omega arith)
 
 mul-raw : tie.Need-mul-raw
 mul-raw c = rw (arg (c .fits .lots), arg (c .fits .price)) (times-fits c)
@@ -42,7 +46,7 @@ is-yen-requires : tie.Need-is-yen-requires
 is-yen-requires c κs = search needs
 
 floor-ten-requires : tie.Need-floor-ten-requires
-floor-ten-requires c κs = search needs
+floor-ten-requires c κs = let s = c .before .before in rw (raw-is s) (omega (arith, raw-in (s .args .kind) (s .args .lots) (s .args .book) (s .args .price) (s .args .quoted) (s .pre)))
 
 returns : tie.Need-returns
 unfolding differenceOf
@@ -54,7 +58,7 @@ mul-floor-lakh : tie.Need-mul-floor-lakh
 mul-floor-lakh c = let s = c .before .before in rw (raw-is s, arg (s .fits .quoted)) (quoted-fits c)
 
 floor-lakh-requires : tie.Need-floor-lakh-requires
-floor-lakh-requires c κs = search needs
+floor-lakh-requires c κs = let s = c .before .before in rw (raw-is s, arg (s .fits .quoted), arg (quoted-fits c)) (omega (arith, quoted-most c))
 
 returns-2 : tie.Need-returns-2
 unfolding differenceOf

@@ -1,60 +1,47 @@
--- `rules::products::margin_of` meets its contract: the product of the three sizes is at most 5 × 10^16. Assumes nothing.
-use mathlib.Core.Path.{_≡_, ap₂}
-use Prim.Native.Nat.{_≤_, _*_}
-use native.Mathlib.Nat.{mul-le-mul}
+-- `rules::products::margin_of` meets its contract: lots × (Y × rate) is (lots × Y) × rate. Assumes nothing.
+use mathlib.Core.Path.{_≡_, sym, ap, ap₂, _∙_}
+use Prim.Native.Nat.{_≤_}
 use native.Mathlib.Omega.{arith}
-use lib.IntN.{natAbs}
-use Rattle.whole.specs.Signs.{word}
-use Rattle.whole.specs.Whole.{whole, facts, by}
+use lib.IntN.{pos}
+use mir.Syntax.{w64}
+use mir.ValLaws.{toZ-pos}
+use Rattle.whole.specs.Signs.{arg, word}
+use Rattle.whole.specs.Whole.{facts}
+use Rattle.rules.specs.Product.{marginOf}
+use Rattle.rules.specs.ProductLaws.{lotMargin, marginAt, mostLotMargin, lot-margin-in, margin-at-in, margin-by}
 use borrow.Author.Needs.{needs}
 use Rattle.rules.proofs.products.margin_of.Statement.{statement}
 use Rattle.rules.proofs.products.margin_of.Tie as tie
 
-lots-and-price : (c : tie.After-up) → (c .before .nat-abs .result ≤ 1000000) × (c .up .result ≤ 5000000)
-lots-and-price c = let a = c .before .before in omega (facts, word (a .args .y) (a .fits .y))
+single-is : (c : tie.After-lot-margin) → let a = c .before .args in c .lot-margin .result ≡ lotMargin (a .y) (a .rate)
+single-is c = let s = c .before in c .lot-margin .ensures ∙ ap₂ lotMargin (arg (s .fits .y)) (arg (s .fits .rate))
 
-rate-most : (c : tie.After-up2) → c .up2 .result ≤ 10000
-rate-most c = let a = c .before .before .before in omega (facts, word (a .args .rate) (a .fits .rate))
+single-in : (c : tie.After-lot-margin) → c .lot-margin .result ≤ mostLotMargin
+single-in c =
+    let s = c .before in
+    rw (single-is c) (lot-margin-in (s .args .y) (s .args .rate) (omega (facts, word (s .args .y) (s .fits .y))) (omega (facts, word (s .args .rate) (s .fits .rate))))
 
-bound : (c : tie.After-up2) → c .before .before .nat-abs .result * c .before .up .result * c .up2 .result ≤ 50000000000000000
-bound c = let s = lots-and-price (c .before) in mul-le-mul (mul-le-mul (s .0) (s .1)) (rate-most c)
+margin-is : (c : tie.After-margin-at) → let a = c .before .before .args in c .margin-at .result ≡ marginOf (a .lots) (a .y) (a .rate)
+margin-is c =
+    let s = c .before .before in let a = s .args in
+    c .margin-at .ensures ∙ ap₂ marginAt (arg (s .fits .lots)) (single-is (c .before)) ∙ sym (margin-by (a .lots) (a .y) (a .rate))
 
-exact : (c : tie.After-up2) → c .before .before .nat-abs .result * c .before .up .result * c .up2 .result ≡ natAbs (c .before .before .before .args .lots) * natAbs (c .before .before .before .args .y) * natAbs (c .before .before .before .args .rate)
-exact c = ap₂ _*_ (ap₂ _*_ (omega facts) (omega facts)) (omega facts)
+fits : (c : tie.After-margin-at) → c .margin-at .result ≤ 500000000000
+fits c =
+    let s = c .before .before in
+    rw (c .margin-at .ensures, arg (s .fits .lots)) (margin-at-in (s .args .lots) (c .before .lot-margin .result) (s .pre .0) (single-in (c .before)))
 
-nat-abs-requires : tie.Need-nat-abs-requires
-nat-abs-requires c κs = search needs
+lot-margin-requires : tie.Need-lot-margin-requires
+lot-margin-requires c κs = search needs
 
-up-requires : tie.Need-up-requires
-up-requires c κs = by (search whole depth 20) (omega facts)
-
-mul-unrounded : tie.Need-mul-unrounded
-mul-unrounded c = let s = lots-and-price c in omega (arith, mul-le-mul (s .0) (s .1))
-
-up-requires-2 : tie.Need-up-requires-2
-up-requires-2 c κs = by (search whole depth 20) (omega facts)
-
-mul-unrounded-2 : tie.Need-mul-unrounded-2
-mul-unrounded-2 c = omega (arith, bound c)
-
-ceil-lakh-requires : tie.Need-ceil-lakh-requires
-ceil-lakh-requires c κs = omega (arith, bound c)
+margin-at-requires : tie.Need-margin-at-requires
+margin-at-requires c κs = (rw (arg (c .before .fits .lots)) (c .before .pre .0), single-in c)
 
 cast-result : tie.Need-cast-result
-cast-result c = omega (arith, bound (c .before), c .ceil-lakh .ensures)
+cast-result c = omega (arith, fits c)
 
 returns : tie.Need-returns
-returns c = by (search whole depth 20) (omega (facts, bound (c .before), exact (c .before)))
+returns c = toZ-pos w64 (c .margin-at .result) (omega (arith, fits c)) ∙ ap pos (margin-is c)
 
 pub margin-of-spec : {M : Type 1} → statement M
-margin-of-spec =
-    tie.close
-    (tie.spec
-    nat-abs-requires
-    up-requires
-    mul-unrounded
-    up-requires-2
-    mul-unrounded-2
-    ceil-lakh-requires
-    cast-result
-    returns)
+margin-of-spec = tie.close (tie.spec lot-margin-requires margin-at-requires cast-result returns)

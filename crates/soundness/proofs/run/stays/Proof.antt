@@ -70,7 +70,7 @@ sub-h : tie.Need-sub-h Inv-loop μ-loop
 sub-h c = fits c
 
 within-requires : tie.Need-within-requires Inv-loop μ-loop
-within-requires c κs = tt
+within-requires c κs = omega arith
 
 returns : tie.Need-returns Inv-loop μ-loop
 returns c = sym (walk (c .before) ∙ rw (fails (tested (c .before)) (c .if1 .taken)) refl)
