@@ -1,14 +1,16 @@
 -- What the places say after a close, over any layout: `After`, and that the puts of the close bring it about (`after`). Assumes nothing.
-use mathlib.Core.Path.{_≡_, refl, ap, _∙_}
+use mathlib.Core.Path.{_≡_, refl, sym, ap, subst, _∙_}
 use mathlib.Core.Logic.{_≢_}
 use mathlib.Core.Bool.{Bool, true, false, not}
 use mathlib.Core.List.{List, [], _∷_, _++_}
-use Prim.Native.Nat.{ℕ, _+_, _<_}
+use Prim.Native.Nat.{ℕ, _+_, _-_, _<_}
+use native.Mathlib.Nat.{lt-of-not-le}
 use native.Mathlib.Omega.{arith}
+use native.Mathlib.Decide.{ℕ-discrete}
 use lib.Dec.{ltb, eqb}
 use lib.IntN.{ℤ, pos}
 use lib.ListN.{length}
-use borrow.Author.Tests.{le-ltb, eq-eqb}
+use borrow.Author.Tests.{ltb-false, le-ltb, eqb-true, eqb-false, eq-eqb}
 use Rattle.whole.specs.Counting.{figureAt}
 use Rattle.whole.specs.Tests.{clash}
 use Rattle.places.specs.declared.Shape.{Shape}
@@ -147,3 +149,33 @@ after L prices rates8 rates104 lags s W z =
       due-new = λ a d h k. through prices rates8 rates104 lags s L g a h (due a d) (h, omega arith) (newDue prices lags s g a d) (eq-eqb a a refl) refl (leaves-due prices rates8 rates104 lags s L g a h d k) W z;
       book-new = λ a j h k. through prices rates8 rates104 lags s L g a h (book a j) (h, k, omega arith) (newBook prices g a j) (eq-eqb a a refl) refl (leaves-book prices rates8 rates104 lags s L g a h j k) W z;
     }
+
+-- a close says what stands at every place
+module _ (prices rates8 rates104 lags : List ℤ) (s : Shape) (g x y : View) (a : After prices rates8 rates104 lags s g x) (b : After prices rates8 rates104 lags s g y) where
+  pub after-same : (q : Place) → Has s q → x q ≡ y q
+  after-same (head k) h = go (eqb k 2) refl
+    where
+      go : (r : Bool) → eqb k 2 ≡ r → x (head k) ≡ y (head k)
+      go true e = let z = eqb-true k 2 e in rw z (a .phase-new ∙ sym (b .phase-new))
+      go false e = a .kept (head k) h (rw e refl) ∙ sym (b .kept (head k) h (rw e refl))
+  after-same (prod j f) h = go (eqb f 2) refl
+    where
+      go : (r : Bool) → eqb f 2 ≡ r → x (prod j f) ≡ y (prod j f)
+      go true e = let z = eqb-true f 2 e in rw z (a .price-new j (h .0) ∙ sym (b .price-new j (h .0)))
+      go false e = a .kept (prod j f) h (rw e refl) ∙ sym (b .kept (prod j f) h (rw e refl))
+  after-same (acct c f) h = go (ltb f 4) refl (ℕ-discrete f 4)
+    where
+      go : (r : Bool) → ltb f 4 ≡ r → Dec (f ≡ 4) → x (acct c f) ≡ y (acct c f)
+      go true e n = a .kept (acct c f) h e ∙ sym (b .kept (acct c f) h e)
+      go false e (yes z) = rw z (a .margin-new c (h .0) ∙ sym (b .margin-new c (h .0)))
+      go false e (no n) =
+          let l = ltb-false f 4 e in let m : 4 < f = lt-of-not-le (λ k. n (omega arith)) in
+          let z : f ≡ firstDue + (f - firstDue) = omega arith in
+          subst (λ k. x (acct c k) ≡ y (acct c k)) (sym z) (a .due-new c (f - firstDue) (h .0) (omega arith) ∙ sym (b .due-new c (f - firstDue) (h .0) (omega arith)))
+  after-same (held c j f) h = go (eqb f 0) refl
+    where
+      go : (r : Bool) → eqb f 0 ≡ r → x (held c j f) ≡ y (held c j f)
+      go true e = a .kept (held c j f) h e ∙ sym (b .kept (held c j f) h e)
+      go false e =
+          let n = eqb-false f 0 e in let m : 0 < f = lt-of-not-le (λ k. n (omega arith)) in let z : f ≡ 1 = omega arith in
+          rw z (a .book-new c j (h .0) (h .1) ∙ sym (b .book-new c j (h .0) (h .1)))

@@ -1,54 +1,54 @@
-// The close of a day (01, "The day", Close): its tests, the new dues of every account, the search for an account whose gross would pass its range, the
-// writing pass. Nothing is written before all refusals are past. The new dues are worked out once: they are kept beside the ledger, and the search and
-// the writing pass both go by them. So is the margin of a lot of each product. The room for both is at most 1,664 bytes: 64 × 3 and 16 words.
+// The close of a day (01, "The day", Close): its tests, the search for an account whose gross would pass its range, the writing pass. Nothing is written
+// before all refusals are past. The writing pass goes product by product and makes each position's due, margin and book at once, where they stand in the
+// ledger: what belongs to a product is worked out once, each difference once, and no room is needed beside the ledger but the dues of one account.
 ghost use mathlib.Core.Path.{_≡_};
 ghost use mathlib.Core.Bool.{true};
-ghost use Prim.Native.Nat.{_+_, _*_, _<_, _≤_};
-ghost use lib.IntN.{pos};
+ghost use Prim.Native.Nat.{_+_, _<_, _≤_};
+ghost use lib.IntN.{natAbs};
 ghost use lib.ListN.{length};
 ghost use Rattle.whole.specs.Number.{is};
 ghost use Rattle.whole.specs.Counting.{all, least};
-ghost use Rattle.whole.specs.Reps.{Each};
-ghost use Rattle.places.specs.Place.{get, puts, each, dues, phase};
+ghost use Rattle.rules.specs.ProductLaws.{Fair, mostLotMargin};
+ghost use Rattle.places.specs.Place.{get, puts, each, dues, phase, lots, book};
 ghost use Rattle.places.specs.PlaceLaws.{Sized};
 ghost use Rattle.places.specs.ByAccount.{byAccount};
 ghost use Rattle.places.specs.Act.{mostAccounts, finish};
 ghost use Rattle.soundness.specs.Perform.{perform};
 ghost use Rattle.soundness.specs.SoundLaws.{Ledger};
-ghost use Rattle.daily.specs.DailyFigures.{figureOk};
-ghost use Rattle.daily.specs.Ranges.{Lengths, Rates, CashIn, LotsIn, EveryDueIn, mostAdded};
-ghost use Rattle.daily.specs.DueLaws.{eachDue};
+ghost use Rattle.daily.specs.DailyFigures.{figureOk, overGross};
+ghost use Rattle.daily.specs.Ranges.{Lengths, Rates, Lags, Named, Ready};
 ghost use Rattle.closing.specs.Close as C;
-ghost use Rattle.closing.specs.Kept as K;
+ghost use Rattle.closing.specs.Walk as W;
+ghost use Rattle.closing.specs.Stages.{Roomy, Column, Begun};
 use places::Shape;
 use rules::Reply;
 
-// Eight accounts or fewer need no room for 64.
-const FEW: usize = 8;
-
-// In these functions `kept` has the new dues of every account in a row, and `singles` the margin of a lot of each product.
-
 // ---- the search behind 12
 
-// The lowest account whose gross would pass its range, or n: account by account and due by due, on finished dues, left at the first excess. The next due
-// is added to what `kept` has of each due; where no account is over, all are finished.
-fn first_over(words: &[i64], s: Shape, kept: &mut [i64]) -> usize
+// An account with no more gross than this, when its dues have moved up, cannot pass its range, whatever its differences.
+const FAR: u64 = rules::sizes::MOST_GROSS - daily::MOST_ADDED;
+
+// The lowest account whose gross would pass its range, or n: account by account and due by due, on finished dues, left at the first excess. The dues of an
+// account that is far from its range are not worked out.
+fn first_over(words: &[i64], s: Shape, prices: &[i64], lags: &[i64], new: &mut [i64]) -> usize
+    requires { ⌜ Ready (now prices) s (get byAccount s (now words)) ⌝ }
     requires { ⌜ Sized s (now words) ⌝ }
-    requires { ⌜ CashIn s (get byAccount s (now words)) ⌝ }
-    requires { ⌜ EveryDueIn s (get byAccount s (now words)) ⌝ }
-    requires { ⌜ (length (now kept) ≡ s .n * dues) × Each mostAdded (now kept) ⌝ }
-    ensures { λ r. ⌜ (r ≡ least (s .n) (K.keptOver (K.finished s (get byAccount s (now (words .entry))) (now (kept .entry))) (get byAccount s (now (words .entry))))) × (r ≡ s .n → now (kept .exit) ≡ K.finished s (get byAccount s (now (words .entry))) (now (kept .entry))) ⌝ }
+    requires { ⌜ Lags (s .p) (now lags) ⌝ }
+    requires { ⌜ length (now new) ≡ dues ⌝ }
+    ensures { λ r. ⌜ r ≡ least (s .n) (overGross (now (prices .entry)) (now (lags .entry)) s (get byAccount s (now (words .entry)))) ⌝ }
 {
     let n = s.n;
     let mut a = 0;
     'search: while a < n {
+        if daily::moved_gross(words, s, a) <= FAR {
+            a += 1;
+            continue;
+        }
+        daily::new_dues(words, s, a, prices, lags, new);
         let mut gross = whole::nat_abs(places::acct_word(words, s, a, places::CASH));
         let mut d = 0;
         while d < places::DUES {
-            let i = a * places::DUES + d;
-            let due = daily::next_due(words, s, a, d) + kept[i];
-            kept[i] = due;
-            gross += whole::nat_abs(due);
+            gross += whole::nat_abs(new[d]);
             if gross > rules::sizes::MOST_GROSS {
                 break 'search;
             }
@@ -61,113 +61,115 @@ fn first_over(words: &[i64], s: Shape, kept: &mut [i64]) -> usize
 
 // ---- the writing pass
 
-// The account a's books, each lots × price, in one walk with its initial margin, which is answered.
-fn close_positions(words: &mut [i64], s: Shape, a: usize, prices: &[i64], singles: &[u64]) -> i64
+// The account a's dues move up, and its margin begins at 0: the products' walk adds to both.
+fn begin_account(words: &mut [i64], s: Shape, a: usize)
     requires { ⌜ Sized s (now words) ⌝ }
-    requires { ⌜ K.Lists (s .p) (now prices) (now singles) ⌝ }
-    requires { ⌜ LotsIn s (get byAccount s (now words)) ⌝ }
     requires { ⌜ a < s .n ⌝ }
-    ensures { λ r. ⌜ r ≡ pos (K.marginBy (now (singles .entry)) s (get byAccount s (now (words .entry))) a) ⌝ }
-    ensures { λ _. ⌜ now (words .exit) ≡ puts byAccount s (now (words .entry)) (each (s .p) (C.bookPuts (now (prices .entry)) a (get byAccount s (now (words .entry))))) ⌝ }
-{
-    let p = s.p;
-    let mut margin: u64 = 0;
-    let mut j = 0;
-    while j < p {
-        let lots = places::held_word(words, s, a, j, places::LOTS);
-        margin += rules::products::margin_at(lots, singles[j]);
-        let book = lots * prices[j];
-        places::put_held(words, s, a, j, places::BOOK, book);
-        j += 1;
-    }
-    margin as i64
-}
-
-fn close_dues(words: &mut [i64], s: Shape, a: usize, kept: &[i64])
-    requires { ⌜ Sized s (now words) ⌝ }
-    requires { ⌜ (a < s .n) × (length (now kept) ≡ s .n * dues) ⌝ }
-    ensures { λ _. ⌜ now (words .exit) ≡ puts byAccount s (now (words .entry)) (each dues (K.keptDue (now (kept .entry)) a)) ⌝ }
+    ensures { λ _. ⌜ now (words .exit) ≡ puts byAccount s (now (words .entry)) (W.beginPuts (get byAccount s (now (words .entry))) a) ⌝ }
 {
     let mut d = 0;
     while d < places::DUES {
-        places::put_acct(
-            words,
-            s,
-            a,
-            places::FIRST_DUE + d,
-            kept[a * places::DUES + d],
-        );
+        let due = daily::next_due(words, s, a, d);
+        places::put_acct(words, s, a, places::FIRST_DUE + d, due);
         d += 1;
     }
+    places::put_acct(words, s, a, places::MARGIN, 0);
 }
 
-fn close_account(
-    words: &mut [i64],
-    s: Shape,
-    a: usize,
-    prices: &[i64],
-    singles: &[u64],
-    kept: &[i64],
-)
+fn begin_accounts(words: &mut [i64], s: Shape)
     requires { ⌜ Sized s (now words) ⌝ }
-    requires { ⌜ K.Lists (s .p) (now prices) (now singles) ⌝ }
-    requires { ⌜ LotsIn s (get byAccount s (now words)) ⌝ }
-    requires { ⌜ (a < s .n) × (length (now kept) ≡ s .n * dues) ⌝ }
-    ensures { λ _. ⌜ now (words .exit) ≡ puts byAccount s (now (words .entry)) (K.keptPuts (now (prices .entry)) (now (singles .entry)) (now (kept .entry)) s (get byAccount s (now (words .entry))) a) ⌝ }
-{
-    let margin = close_positions(words, s, a, prices, singles);
-    places::put_acct(words, s, a, places::MARGIN, margin);
-    close_dues(words, s, a, kept);
-}
-
-fn close_accounts(words: &mut [i64], s: Shape, prices: &[i64], singles: &[u64], kept: &[i64])
-    requires { ⌜ Sized s (now words) ⌝ }
-    requires { ⌜ K.Lists (s .p) (now prices) (now singles) ⌝ }
-    requires { ⌜ LotsIn s (get byAccount s (now words)) ⌝ }
-    requires { ⌜ length (now kept) ≡ s .n * dues ⌝ }
-    ensures { λ _. ⌜ now (words .exit) ≡ puts byAccount s (now (words .entry)) (each (s .n) (K.keptPuts (now (prices .entry)) (now (singles .entry)) (now (kept .entry)) s (get byAccount s (now (words .entry))))) ⌝ }
+    ensures { λ _. ⌜ now (words .exit) ≡ puts byAccount s (now (words .entry)) (each (s .n) (W.beginPuts (get byAccount s (now (words .entry))))) ⌝ }
 {
     let n = s.n;
     let mut a = 0;
     while a < n {
-        close_account(words, s, a, prices, singles, kept);
+        begin_account(words, s, a);
         a += 1;
     }
 }
 
-fn close_prices(words: &mut [i64], s: Shape, prices: &[i64])
+// The account a's position in the product j: its difference is added to the due d, its margin to the account's, and its book is lots × price. All is read
+// before it is written: the difference is taken against the book before the close.
+fn close_position(
+    words: &mut [i64],
+    s: Shape,
+    a: usize,
+    j: usize,
+    kind: i64,
+    price: i64,
+    quoted: i64,
+    single: u64,
+    d: usize,
+)
     requires { ⌜ Sized s (now words) ⌝ }
-    requires { ⌜ length (now prices) ≡ s .p ⌝ }
-    ensures { λ _. ⌜ now (words .exit) ≡ puts byAccount s (now (words .entry)) (each (s .p) (C.pricePuts (now (prices .entry)))) ⌝ }
+    requires { ⌜ Fair kind (get byAccount s (now words) (lots a j)) (get byAccount s (now words) (book a j)) price quoted ⌝ }
+    requires { ⌜ Roomy (get byAccount s (now words)) a d ⌝ }
+    requires { ⌜ (a < s .n) × (j < s .p) × (d < dues) × (single ≤ mostLotMargin) ⌝ }
+    ensures { λ _. ⌜ now (words .exit) ≡ puts byAccount s (now (words .entry)) (W.positionPuts kind price quoted single d j (get byAccount s (now (words .entry))) a) ⌝ }
 {
-    let p = s.p;
-    let mut j = 0;
-    while j < p {
-        places::put_prod(words, s, j, places::PRICE, prices[j]);
-        j += 1;
-    }
+    let lots = places::held_word(words, s, a, j, places::LOTS);
+    let book = places::held_word(words, s, a, j, places::BOOK);
+    let due = places::acct_word(words, s, a, places::FIRST_DUE + d);
+    let margin = places::acct_word(words, s, a, places::MARGIN);
+    let more = rules::products::difference_of(kind, lots, book, price, quoted);
+    let charge = rules::products::margin_at(lots, single) as i64;
+    places::put_acct(words, s, a, places::FIRST_DUE + d, due + more);
+    places::put_acct(words, s, a, places::MARGIN, margin + charge);
+    places::put_held(words, s, a, j, places::BOOK, lots * price);
 }
 
-// All words, with room for the margins of a lot.
-fn close_by(
+// The product j: what belongs to it is read once, for all accounts; then its last price.
+fn close_product(
+    words: &mut [i64],
+    s: Shape,
+    j: usize,
+    prices: &[i64],
+    rates8: &[i64],
+    rates104: &[i64],
+    lags: &[i64],
+)
+    requires { ⌜ Sized s (now words) ⌝ }
+    requires { ⌜ Named (now prices) s (get byAccount s (now words)) ⌝ }
+    requires { ⌜ Rates (s .p) (now rates8) (now rates104) ⌝ }
+    requires { ⌜ Lags (s .p) (now lags) ⌝ }
+    requires { ⌜ Column (now prices) (now lags) s (get byAccount s (now words)) j ⌝ }
+    requires { ⌜ j < s .p ⌝ }
+    ensures { λ _. ⌜ now (words .exit) ≡ W.productWalked byAccount s (now (prices .entry)) (now (rates8 .entry)) (now (rates104 .entry)) (now (lags .entry)) j (now (words .entry)) ⌝ }
+{
+    let n = s.n;
+    let kind = places::prod_word(words, s, j, places::PRODUCT_KIND);
+    let quoted = daily::quoted_at(words, s, j, prices);
+    let single = daily::single_at(words, s, j, prices, rates8, rates104);
+    let d = whole::nat_abs(lags[j]) as usize;
+    let price = prices[j];
+    let mut a = 0;
+    while a < n {
+        close_position(words, s, a, j, kind, price, quoted, single, d);
+        a += 1;
+    }
+    places::put_prod(words, s, j, places::PRICE, price);
+}
+
+fn close_products(
     words: &mut [i64],
     s: Shape,
     prices: &[i64],
     rates8: &[i64],
     rates104: &[i64],
-    kept: &[i64],
-    singles: &mut [u64],
+    lags: &[i64],
 )
     requires { ⌜ Sized s (now words) ⌝ }
-    requires { ⌜ K.Known (now prices) s (get byAccount s (now words)) ⌝ }
+    requires { ⌜ Begun (now prices) s (get byAccount s (now words)) ⌝ }
     requires { ⌜ Rates (s .p) (now rates8) (now rates104) ⌝ }
-    requires { ⌜ (length (now kept) ≡ s .n * dues) × (length (now singles) ≡ s .p) ⌝ }
-    ensures { λ _. ⌜ now (words .exit) ≡ puts byAccount s (now (words .entry)) (K.wordsPuts (now (prices .entry)) (now (rates8 .entry)) (now (rates104 .entry)) (now (kept .entry)) s (get byAccount s (now (words .entry)))) ⌝ }
+    requires { ⌜ Lags (s .p) (now lags) ⌝ }
+    ensures { λ _. ⌜ now (words .exit) ≡ W.walked byAccount s (now (prices .entry)) (now (rates8 .entry)) (now (rates104 .entry)) (now (lags .entry)) (s .p) (now (words .entry)) ⌝ }
 {
-    daily::lot_margins(words, s, prices, rates8, rates104, singles);
-    close_accounts(words, s, prices, singles, kept);
-    close_prices(words, s, prices);
-    places::put_head(words, s, places::PHASE, 0);
+    let p = s.p;
+    let mut j = 0;
+    while j < p {
+        close_product(words, s, j, prices, rates8, rates104, lags);
+        j += 1;
+    }
 }
 
 fn close_words(
@@ -176,17 +178,17 @@ fn close_words(
     prices: &[i64],
     rates8: &[i64],
     rates104: &[i64],
-    kept: &[i64],
+    lags: &[i64],
 )
     requires { ⌜ Sized s (now words) ⌝ }
-    requires { ⌜ K.Known (now prices) s (get byAccount s (now words)) ⌝ }
+    requires { ⌜ Ready (now prices) s (get byAccount s (now words)) ⌝ }
     requires { ⌜ Rates (s .p) (now rates8) (now rates104) ⌝ }
-    requires { ⌜ length (now kept) ≡ s .n * dues ⌝ }
-    ensures { λ _. ⌜ now (words .exit) ≡ puts byAccount s (now (words .entry)) (K.wordsPuts (now (prices .entry)) (now (rates8 .entry)) (now (rates104 .entry)) (now (kept .entry)) s (get byAccount s (now (words .entry)))) ⌝ }
+    requires { ⌜ Lags (s .p) (now lags) ⌝ }
+    ensures { λ _. ⌜ now (words .exit) ≡ puts byAccount s (now (words .entry)) (C.closePuts (now (prices .entry)) (now (rates8 .entry)) (now (rates104 .entry)) (now (lags .entry)) s (get byAccount s (now (words .entry)))) ⌝ }
 {
-    let p = s.p;
-    let mut singles: [u64; places::MOST_PRODUCTS] = [0; places::MOST_PRODUCTS];
-    close_by(words, s, prices, rates8, rates104, kept, &mut singles[..p]);
+    begin_accounts(words, s);
+    close_products(words, s, prices, rates8, rates104, lags);
+    places::put_head(words, s, places::PHASE, 0);
 }
 
 // ---- the call
@@ -200,39 +202,7 @@ fn phase_is(words: &[i64], s: Shape, f: usize) -> bool
     whole::between(places::head_word(words, s, places::PHASE), k, k)
 }
 
-// The close, where its lists and the phase are right, with room for the new dues: zeros to begin with.
-fn close_kept(
-    words: &mut [i64],
-    s: Shape,
-    prices: &[i64],
-    rates8: &[i64],
-    rates104: &[i64],
-    lags: &[i64],
-    kept: &mut [i64],
-) -> Reply
-    requires { ⌜ Ledger byAccount s (now words) ⌝ }
-    requires { ⌜ Lengths (s .p) (now prices) (now rates8) (now rates104) (now lags) ⌝ }
-    requires { ⌜ all (s .p) (figureOk (now prices) (now rates8) (now rates104) (now lags) (get byAccount s (now words))) ≡ true ⌝ }
-    requires { ⌜ now kept ≡ eachDue (s .n) (λ a d. pos 0) ⌝ }
-    ensures { λ r. ⌜ (r, now (words .exit)) ≡ finish byAccount s (now (words .entry)) (C.closing (now (prices .entry)) (now (rates8 .entry)) (now (rates104 .entry)) (now (lags .entry)) s (get byAccount s (now (words .entry)))) ⌝ }
-{
-    let n = s.n;
-    daily::add_differences(words, s, prices, lags, kept);
-    let a = first_over(words, s, kept);
-    if a < n {
-        return Reply {
-            number: 12,
-            figure: a as i64,
-        };
-    }
-    close_words(words, s, prices, rates8, rates104, kept);
-    Reply {
-        number: 0,
-        figure: 0,
-    }
-}
-
-// The same with room of its own, by the number of accounts.
+// The close, where its lists and the phase are right.
 fn close_all(
     words: &mut [i64],
     s: Shape,
@@ -247,14 +217,19 @@ fn close_all(
     ensures { λ r. ⌜ (r, now (words .exit)) ≡ finish byAccount s (now (words .entry)) (C.closing (now (prices .entry)) (now (rates8 .entry)) (now (rates104 .entry)) (now (lags .entry)) s (get byAccount s (now (words .entry)))) ⌝ }
 {
     let n = s.n;
-    let size = n * places::DUES;
-    if n <= FEW {
-        let mut few: [i64; FEW * places::DUES] = [0; FEW * places::DUES];
-        return close_kept(words, s, prices, rates8, rates104, lags, &mut few[..size]);
+    let mut new: [i64; places::DUES] = [0; places::DUES];
+    let a = first_over(words, s, prices, lags, &mut new);
+    if a < n {
+        return Reply {
+            number: 12,
+            figure: a as i64,
+        };
     }
-    let mut kept: [i64; places::MOST_ACCOUNTS * places::DUES] = [0; places::MOST_ACCOUNTS
-        * places::DUES];
-    close_kept(words, s, prices, rates8, rates104, lags, &mut kept[..size])
+    close_words(words, s, prices, rates8, rates104, lags);
+    Reply {
+        number: 0,
+        figure: 0,
+    }
 }
 
 // The close of a ledger that is known to be sound: its own tests, lowest number first.

@@ -1,18 +1,18 @@
 -- The figures that a close computes on a sound ledger stay within 64 bits: `Row` is what is known of an account's positions and their products,
--- `sum-in` and `charges-in` the bounds of what is added to a due and of the new margin, `ready` how all of it follows. Assumes nothing.
+-- `part-in`, `due-in` and `charges-in` the bounds of the new dues and of the new margin, `ready` how all of it follows. Assumes nothing.
 use mathlib.Core.List.{List}
 use mathlib.Core.Bool.{Bool, true, false, cond, not, _&&_}
 use mathlib.Core.Path.{_≡_, refl}
 use Prim.Native.Nat.{ℕ, zero, suc, _+_, _-_, _*_, _≤_, _<_}
 use native.Mathlib.Omega.{arith}
 use lib.Dec.{ltb, eqb}
-use lib.IntN.{ℤ, pos, natAbs}
+use lib.IntN.{ℤ, pos, natAbs, _+ℤ_}
 use lib.ListN.{length}
 use borrow.Author.Tests.{eqb-true, ltb-true}
 use Rattle.whole.specs.Number.{within, between, is, isOneOf}
 use Rattle.whole.specs.Counting.{all, sum, total, figureAt}
 use Rattle.whole.specs.CountingLaws.{all-at, sum-abs, total-most}
-use Rattle.whole.specs.Tests.{both, InRange, in-range, is-one-of, within-true}
+use Rattle.whole.specs.Tests.{both, InRange, in-range, is-one-of, within-true, abs-add}
 use Rattle.rules.specs.Sizes.{isYen, mostPrice, mostBook, mostLots, mostRate, mostGross}
 use Rattle.rules.specs.Product.{rateOf}
 use Rattle.rules.specs.ProductLaws.{Fair, fair-in, rate-in, margin-in, price-most}
@@ -23,7 +23,7 @@ use Rattle.places.specs.Act.{mostProducts}
 use Rattle.places.specs.Place.{Place, View, dues, productKind, floorMark, price, principal, quote, cash, due, lots, book}
 use Rattle.soundness.specs.Sound.{accountAt, productOk, namesYen, yenPair, crossPair, pairOk}
 use Rattle.soundness.specs.SoundLaws.{Facts}
-use Rattle.daily.specs.DailyFigures.{lengthsOk, figureOk, difference, addedTo, nextDue, charge}
+use Rattle.daily.specs.DailyFigures.{lengthsOk, figureOk, difference, addedTo, nextDue, newDue, charge}
 
 -- the number of the product whose price is Y, by the words of the product j (`yenProduct`)
 abbrev yenOf : ℤ → ℕ → ℤ → ℕ
@@ -80,7 +80,7 @@ lengths-of prices rates8 rates104 lags p e =
       lags-long = eqb-true (length lags) p (h .1);
     }
 
--- the most that a close adds to a due, in size
+-- the most that a close adds to an account's dues, in size: so much for each of 16 products
 abbrev pub mostAdded : ℕ
 mostAdded = 480000000000000
 
@@ -90,16 +90,25 @@ module _ (prices : List ℤ) (s : Shape) (g : View) (a : ℕ) (r : Row prices s 
   pub fair : (j : ℕ) → j < s .p → Fair (g (productKind j)) (g (lots a j)) (g (book a j)) (figureAt prices j) (figureAt prices (natAbs (g (quote j))))
   fair j h = let c = r .at j h in record { lots-in = c .lots-in; price-in = c .price-in .high; book-in = c .book-in; quoted-in = c .quote-price .high }
 
+  pub difference-in : (j : ℕ) → j < s .p → natAbs (difference prices g a j) ≤ 30000000000000
+  difference-in j h = fair-in (g (productKind j)) (g (lots a j)) (g (book a j)) (figureAt prices j) (figureAt prices (natAbs (g (quote j)))) (fair j h)
+
   added-in : (lags : List ℤ) (d j : ℕ) → j < s .p → natAbs (addedTo prices lags g a d j) ≤ 30000000000000
   added-in lags d j h = go (eqb (natAbs (figureAt lags j)) d)
     where
       go : (t : Bool) → natAbs (cond t (difference prices g a j) (pos 0)) ≤ 30000000000000
-      go true = fair-in (g (productKind j)) (g (lots a j)) (g (book a j)) (figureAt prices j) (figureAt prices (natAbs (g (quote j)))) (fair j h)
+      go true = difference-in j h
       go false = omega arith
 
-  -- what the first j products add to a due
-  pub sum-in : (lags : List ℤ) (d j : ℕ) → s .p ≤ mostProducts → j ≤ s .p → natAbs (sum j (addedTo prices lags g a d)) ≤ mostAdded
-  sum-in lags d j few h = omega (arith, sum-abs 30000000000000 j (addedTo prices lags g a d) (λ i k. added-in lags d i (omega arith)))
+  -- a due in range, with what the first j products add
+  pub part-in : (lags : List ℤ) (d j : ℕ) (z : ℤ) → s .p ≤ mostProducts → j ≤ s .p → natAbs z ≤ mostGross → natAbs (z +ℤ sum j (addedTo prices lags g a d)) ≤ 1480000000000000
+  part-in lags d j z few h n =
+      let m = sum-abs 30000000000000 j (addedTo prices lags g a d) (λ i k. added-in lags d i (omega arith)) in
+      omega (arith, abs-add z (sum j (addedTo prices lags g a d)))
+
+  pub due-in : (lags : List ℤ) (d : ℕ) → s .p ≤ mostProducts → natAbs (nextDue g a d) ≤ mostGross → natAbs (newDue prices lags s g a d) ≤ 1480000000000000
+  unfolding newDue
+  due-in lags d few n = part-in lags d (s .p) (nextDue g a d) few (omega arith) n
 
 module _ (prices rates8 rates104 : List ℤ) (s : Shape) (g : View) (a : ℕ) (n : Named prices s g) (r : Row prices s g a) (t : Rates (s .p) rates8 rates104) where
   charge-in : (j : ℕ) → j < s .p → charge prices rates8 rates104 g a j ≤ 500000000000

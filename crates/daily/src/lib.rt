@@ -1,28 +1,29 @@
-// The figures of a close (01, "The day", Close, and "The margin rules"): the tests of its four lists, what is added to every due of every account, and the
-// margin of a lot of each product. What belongs to a product is worked out once a product, and each difference once. Figures are read by place from the ledger's words.
+// The figures of a close (01, "The day", Close, and "The margin rules"): the tests of its four lists, the new dues of an account, and the margin of a lot
+// of a product. Figures are read by place from the ledger's words.
 ghost use mathlib.Core.Path.{_≡_};
-ghost use Prim.Native.Nat.{_+_, _<_};
+ghost use Prim.Native.Nat.{_<_, _≤_};
 ghost use lib.IntN.{pos, natAbs};
 ghost use lib.ListN.{length};
 ghost use Rattle.whole.specs.Number.{between};
 ghost use Rattle.whole.specs.Counting.{all, listed};
-ghost use Rattle.rules.specs.Sizes.{mostPrice};
-ghost use Rattle.rules.specs.Product.{differenceOf};
-ghost use Rattle.rules.specs.ProductLaws.{Fair};
-ghost use Rattle.places.specs.Place.{get, dues, productKind, quote, lots, book};
+ghost use Rattle.rules.specs.Sizes.{mostPrice, mostGross};
+ghost use Rattle.places.specs.Place.{get, dues, productKind, quote, cash};
 ghost use Rattle.places.specs.PlaceLaws.{Sized};
 ghost use Rattle.places.specs.ByAccount.{byAccount};
 ghost use Rattle.soundness.specs.Sound.{productAt};
 ghost use Rattle.whole.specs.Counting.{figureAt};
 ghost use Rattle.daily.specs.DailyFigures as F;
-ghost use Rattle.daily.specs.Ranges.{Lengths, Rates, Lags, Named, Ready};
-ghost use Rattle.daily.specs.DueLaws.{eachDue, added};
+ghost use Rattle.daily.specs.Ranges.{Lengths, Rates, Lags, Named, Row, EachDueIn};
+ghost use Rattle.daily.specs.DueLaws.{movedGross};
 ghost use Rattle.daily.specs.Once.{singleOf};
 use places::Shape;
 use rules::Product;
 
 // The last due that a lag can name.
 const LAST_LAG: i64 = places::DUES as i64 - 1;
+
+// The most that a close adds to an account's dues, in size: 3 × 10^13 for each of 16 products.
+pub const MOST_ADDED: u64 = 480000000000000;
 
 // ---- the four lists of a close
 
@@ -122,7 +123,7 @@ pub fn next_due(words: &[i64], s: Shape, a: usize, d: usize) -> i64
 }
 
 // The new yen price of what the product j names as its quote.
-fn quoted_at(words: &[i64], s: Shape, j: usize, prices: &[i64]) -> i64
+pub fn quoted_at(words: &[i64], s: Shape, j: usize, prices: &[i64]) -> i64
     requires { ⌜ Sized s (now words) ⌝ }
     requires { ⌜ Named (now prices) s (get byAccount s (now words)) ⌝ }
     requires { ⌜ j < s .p ⌝ }
@@ -132,62 +133,79 @@ fn quoted_at(words: &[i64], s: Shape, j: usize, prices: &[i64]) -> i64
     prices[quote]
 }
 
-// The difference of a position, in yen, rounded down.
-fn difference(
-    words: &[i64],
-    s: Shape,
-    a: usize,
-    j: usize,
-    kind: i64,
-    price: i64,
-    quoted: i64,
-) -> i64
+// The difference of a position, in yen, rounded down; a cross's by the quote's new yen price.
+fn difference(words: &[i64], s: Shape, a: usize, j: usize, prices: &[i64]) -> i64
     requires { ⌜ Sized s (now words) ⌝ }
+    requires { ⌜ Named (now prices) s (get byAccount s (now words)) × Row (now prices) s (get byAccount s (now words)) a ⌝ }
     requires { ⌜ (a < s .n) × (j < s .p) ⌝ }
-    requires { ⌜ Fair kind (get byAccount s (now words) (lots a j)) (get byAccount s (now words) (book a j)) price quoted ⌝ }
-    ensures { λ r. ⌜ r ≡ differenceOf kind (get byAccount s (now (words .entry)) (lots a j)) (get byAccount s (now (words .entry)) (book a j)) price quoted ⌝ }
+    ensures { λ r. ⌜ r ≡ F.difference (now (prices .entry)) (get byAccount s (now (words .entry))) a j ⌝ }
 {
+    let kind = places::prod_word(words, s, j, places::PRODUCT_KIND);
     let lots = places::held_word(words, s, a, j, places::LOTS);
     let book = places::held_word(words, s, a, j, places::BOOK);
-    rules::products::difference_of(kind, lots, book, price, quoted)
+    let quoted = quoted_at(words, s, j, prices);
+    rules::products::difference_of(kind, lots, book, prices[j], quoted)
 }
 
-// The product j's differences are added, each to its account's due that the lag names. `kept` has the dues of every account in a row.
-fn add_product(words: &[i64], s: Shape, j: usize, prices: &[i64], lags: &[i64], kept: &mut [i64])
+// The dues move up.
+fn move_up(words: &[i64], s: Shape, a: usize, new: &mut [i64])
     requires { ⌜ Sized s (now words) ⌝ }
-    requires { ⌜ Ready (now prices) s (get byAccount s (now words)) ⌝ }
-    requires { ⌜ Lags (s .p) (now lags) ⌝ }
-    requires { ⌜ (j < s .p) × (now kept ≡ eachDue (s .n) (added (now prices) (now lags) (get byAccount s (now words)) j)) ⌝ }
-    ensures { λ _. ⌜ now (kept .exit) ≡ eachDue (s .n) (added (now (prices .entry)) (now (lags .entry)) (get byAccount s (now (words .entry))) (j + 1)) ⌝ }
+    requires { ⌜ (a < s .n) × (length (now new) ≡ dues) ⌝ }
+    ensures { λ _. ⌜ now (new .exit) ≡ listed dues (F.nextDue (get byAccount s (now (words .entry))) a) ⌝ }
 {
-    let n = s.n;
-    let kind = places::prod_word(words, s, j, places::PRODUCT_KIND);
-    let quoted = quoted_at(words, s, j, prices);
-    let price = prices[j];
-    let d = whole::nat_abs(lags[j]) as usize;
-    let mut a = 0;
-    while a < n {
-        let more = difference(words, s, a, j, kind, price, quoted);
-        let i = a * places::DUES + d;
-        kept[i] = kept[i] + more;
-        a += 1;
+    let mut d = 0;
+    while d < places::DUES {
+        new[d] = next_due(words, s, a, d);
+        d += 1;
     }
 }
 
-// What a close adds to every due of every account, product by product: each difference is worked out once. `kept` begins with zeros.
-pub fn add_differences(words: &[i64], s: Shape, prices: &[i64], lags: &[i64], kept: &mut [i64])
+// Each product's difference is added to the due that its lag names.
+fn add_differences(words: &[i64], s: Shape, a: usize, prices: &[i64], lags: &[i64], new: &mut [i64])
     requires { ⌜ Sized s (now words) ⌝ }
-    requires { ⌜ Ready (now prices) s (get byAccount s (now words)) ⌝ }
+    requires { ⌜ Named (now prices) s (get byAccount s (now words)) × Row (now prices) s (get byAccount s (now words)) a ⌝ }
+    requires { ⌜ EachDueIn (get byAccount s (now words)) a ⌝ }
     requires { ⌜ Lags (s .p) (now lags) ⌝ }
-    requires { ⌜ now kept ≡ eachDue (s .n) (λ a d. pos 0) ⌝ }
-    ensures { λ _. ⌜ now (kept .exit) ≡ eachDue (s .n) (added (now (prices .entry)) (now (lags .entry)) (get byAccount s (now (words .entry))) (s .p)) ⌝ }
+    requires { ⌜ (a < s .n) × (now new ≡ listed dues (F.nextDue (get byAccount s (now words)) a)) ⌝ }
+    ensures { λ _. ⌜ now (new .exit) ≡ listed dues (F.newDue (now (prices .entry)) (now (lags .entry)) s (get byAccount s (now (words .entry))) a) ⌝ }
 {
     let p = s.p;
     let mut j = 0;
     while j < p {
-        add_product(words, s, j, prices, lags, kept);
+        let d = whole::nat_abs(lags[j]) as usize;
+        let more = difference(words, s, a, j, prices);
+        new[d] = new[d] + more;
         j += 1;
     }
+}
+
+// The new dues of an account.
+pub fn new_dues(words: &[i64], s: Shape, a: usize, prices: &[i64], lags: &[i64], new: &mut [i64])
+    requires { ⌜ Sized s (now words) ⌝ }
+    requires { ⌜ Named (now prices) s (get byAccount s (now words)) × Row (now prices) s (get byAccount s (now words)) a ⌝ }
+    requires { ⌜ EachDueIn (get byAccount s (now words)) a ⌝ }
+    requires { ⌜ Lags (s .p) (now lags) ⌝ }
+    requires { ⌜ (a < s .n) × (length (now new) ≡ dues) ⌝ }
+    ensures { λ _. ⌜ now (new .exit) ≡ listed dues (F.newDue (now (prices .entry)) (now (lags .entry)) s (get byAccount s (now (words .entry))) a) ⌝ }
+{
+    move_up(words, s, a, new);
+    add_differences(words, s, a, prices, lags, new);
+}
+
+// The gross of an account whose dues have moved up, before any difference is added.
+pub fn moved_gross(words: &[i64], s: Shape, a: usize) -> u64
+    requires { ⌜ Sized s (now words) ⌝ }
+    requires { ⌜ EachDueIn (get byAccount s (now words)) a ⌝ }
+    requires { ⌜ (a < s .n) × (natAbs (get byAccount s (now words) (cash a)) ≤ mostGross) ⌝ }
+    ensures { λ r. ⌜ r ≡ movedGross (get byAccount s (now (words .entry))) a ⌝ }
+{
+    let mut gross = whole::nat_abs(places::acct_word(words, s, a, places::CASH));
+    let mut d = 0;
+    while d < places::DUES {
+        gross += whole::nat_abs(next_due(words, s, a, d));
+        d += 1;
+    }
+    gross
 }
 
 // ---- the margin of a lot
@@ -207,7 +225,7 @@ fn product_at(words: &[i64], s: Shape, j: usize) -> Product
 }
 
 // The margin of a lot of the product j, from the new price of the principal currency against yen and the new rates.
-fn single_at(
+pub fn single_at(
     words: &[i64],
     s: Shape,
     j: usize,
@@ -226,27 +244,4 @@ fn single_at(
     let yen = rules::products::yen_product(product, j);
     let rate = rules::products::rate_of(mark, rates8[j], rates104[j]);
     rules::products::lot_margin(prices[yen], rate)
-}
-
-// The margin of a lot of each product, worked out once for all accounts.
-pub fn lot_margins(
-    words: &[i64],
-    s: Shape,
-    prices: &[i64],
-    rates8: &[i64],
-    rates104: &[i64],
-    singles: &mut [u64],
-)
-    requires { ⌜ Sized s (now words) ⌝ }
-    requires { ⌜ Named (now prices) s (get byAccount s (now words)) ⌝ }
-    requires { ⌜ Rates (s .p) (now rates8) (now rates104) ⌝ }
-    requires { ⌜ length (now singles) ≡ s .p ⌝ }
-    ensures { λ _. ⌜ now (singles .exit) ≡ listed (s .p) (singleOf (now (prices .entry)) (now (rates8 .entry)) (now (rates104 .entry)) (get byAccount s (now (words .entry)))) ⌝ }
-{
-    let p = s.p;
-    let mut j = 0;
-    while j < p {
-        singles[j] = single_at(words, s, j, prices, rates8, rates104);
-        j += 1;
-    }
 }

@@ -1,10 +1,13 @@
--- The laws of the layout by account: an account's words stand in a row, each place of a shape has a word inside the list, and no two places share
--- one. Assumes nothing.
-use mathlib.Core.Path.{_≡_, sym, ap, _∙_}
-use Prim.Native.Nat.{ℕ, _+_, _*_, _/_, _%_, _<_, _≤_}
-use native.Mathlib.Nat.{mul-le-mul}
+-- The laws of the layout by account: an account's words stand in a row, each place of a shape has a word inside the list, no two places share one, and
+-- there is no word without a place. Assumes nothing.
+use mathlib.Core.Path.{_≡_, refl, sym, ap, _∙_}
+use mathlib.Core.Bool.{Bool, true, false, cond}
+use Prim.Native.Nat.{ℕ, _+_, _-_, _*_, _/_, _%_, _<_, _≤_}
+use native.Mathlib.Nat.{mul-le-mul, div-add-mod', mod-lt, lt-of-mul-lt-mul-right}
 use native.Mathlib.Omega.{arith}
 use lib.Arith.{digits-lt, digits-div, digits-mod}
+use lib.Dec.{ltb}
+use borrow.Author.Tests.{ltb-true, ltb-false}
 use Rattle.places.specs.declared.Shape.{Shape}
 use Rattle.places.specs.Place.{Place, heads, productFields, fields, heldFields, head, prod, acct, held, Has, wordsOf}
 use Rattle.places.specs.Act.{mostAccounts, mostProducts, mostWords}
@@ -62,3 +65,52 @@ same s (held a i f) (acct b g) h h′ e =
 same s (held a i f) (held b j g) h h′ e =
     let d : (a ≡ b) × (fields + heldFields * i + f ≡ fields + heldFields * j + g) = same-digits (heads + productFields * s .p) (recordSize (s .p)) a (fields + heldFields * i + f) b (fields + heldFields * j + g) (omega arith) (omega arith) e in
     let y : i ≡ j = omega arith in let z : f ≡ g = omega arith in cc
+
+-- ---- the place of a word
+
+abbrev base : Shape → ℕ
+base s = heads + productFields * s .p
+
+-- of the word t of the account a's record
+abbrev inRecord : ℕ → ℕ → Place
+inRecord a t = cond (ltb t fields) (acct a t) (held a ((t - fields) / heldFields) ((t - fields) % heldFields))
+
+abbrev inProducts : ℕ → Place
+inProducts i = prod ((i - heads) / productFields) ((i - heads) % productFields)
+
+abbrev inAccounts : Shape → ℕ → Place
+inAccounts s i = inRecord ((i - base s) / recordSize (s .p)) ((i - base s) % recordSize (s .p))
+
+abbrev pub which : Shape → ℕ → Place
+which s i = cond (ltb i heads) (head i) (cond (ltb i (base s)) (inProducts i) (inAccounts s i))
+
+abbrev Reached : Shape → ℕ → Place → Type 0
+Reached s i q = Has s q × (at s q ≡ i)
+
+record-reached : (s : Shape) (a t : ℕ) → a < s .n → t < recordSize (s .p) → Reached s (recordAt (s .p) a + t) (inRecord a t)
+record-reached s a t h k = go (ltb t fields) refl
+  where
+    go : (b : Bool) → ltb t fields ≡ b → Reached s (recordAt (s .p) a + t) (cond b (acct a t) (held a ((t - fields) / heldFields) ((t - fields) % heldFields)))
+    go true e = ((h, ltb-true t fields e), refl)
+    go false e = let l = ltb-false t fields e in ((h, omega arith, omega arith), omega arith)
+
+-- a word behind the products is one of an account's record
+behind : (s : Shape) (i : ℕ) → base s ≤ i → i < wordsOf s → Reached s i (inAccounts s i)
+behind s i h l =
+    let m = recordSize (s .p) in let r = i - base s in
+    let e : r / m * m + r % m ≡ r = div-add-mod' r m in
+    let k : r % m < m = mod-lt r (omega arith) in
+    let inside : r / m < s .n = lt-of-mul-lt-mul-right m (omega arith) in
+    let found = record-reached s (r / m) (r % m) inside k in
+    (found .0, found .1 ∙ omega arith)
+
+pub reached : (s : Shape) (i : ℕ) → i < wordsOf s → Reached s i (which s i)
+reached s i h = first (ltb i heads) refl
+  where
+    second : (t : Bool) → ltb i (base s) ≡ t → heads ≤ i → Reached s i (cond t (inProducts i) (inAccounts s i))
+    second true e k = let l = ltb-true i (base s) e in ((omega arith, omega arith), omega arith)
+    second false e k = behind s i (ltb-false i (base s) e) h
+
+    first : (t : Bool) → ltb i heads ≡ t → Reached s i (cond t (head i) (cond (ltb i (base s)) (inProducts i) (inAccounts s i)))
+    first true e = (ltb-true i heads e, refl)
+    first false e = second (ltb i (base s)) refl (ltb-false i heads e)

@@ -1,7 +1,7 @@
 -- A pass over accounts, products or dues as one list of puts, every word of it computed from the view at the start.
 -- The code computes each word from the words as they stand. The two agree where what is still to be read has not been written:
 -- `Sees` says which places a value depends on, `Off` that puts stand elsewhere, and `then-puts`, `pass-more` join a part to what was done.
-use mathlib.Core.Path.{_≡_, sym, ap, ap₂, subst, _∙_}
+use mathlib.Core.Path.{_≡_, refl, sym, ap, ap₂, subst, _∙_}
 use mathlib.Core.Logic.{_≢_, inl, inr}
 use mathlib.Core.List.{List, [], _∷_, _++_}
 use mathlib.Core.Bool.{Bool, true, false}
@@ -87,3 +87,21 @@ module _ (L : Layout) (s : Shape) (q : Place) (hq : Has s q) (v : ℤ) where
         | inl e ↦ leaves-after (each k F) (F k) (subst (λ m. Leaves (F m)) (native.Mathlib.Nat.suc-inj e) t)
         | inr l ↦ leaves-later (each k F) (F k) (leaves-each k F i (omega arith) t (λ m a b. o m (omega arith) b)) (o k (omega arith) (omega arith))
       ]
+
+-- ---- turns, each made from the words as they stand
+
+abbrev pub turns : Layout → Shape → (View → ℕ → List Put) → ℕ → List ℤ → List ℤ
+turns L s F zero W = W
+turns L s F (suc i) W = puts L s (turns L s F i W) (F (get L s (turns L s F i W)) i)
+
+module _ (L : Layout) (s : Shape) (F : View → ℕ → List Put) (W : List ℤ) where
+  pub length-turns : (k : ℕ) → length (turns L s F k W) ≡ length W
+  length-turns zero = refl
+  length-turns (suc k) = length-puts L s (F (get L s (turns L s F k W)) k) (turns L s F k W) ∙ length-turns k
+
+  -- what no turn puts is as it was
+  pub turns-unseen : (P : Place → Bool) (k : ℕ) → ((i : ℕ) → i < k → (g : View) → Off s P (F g i)) → Agree s P (get L s (turns L s F k W)) (get L s W)
+  turns-unseen P zero h q hq t = refl
+  turns-unseen P (suc k) h q hq t =
+      let X = turns L s F k W in
+      unseen L s P (F (get L s X) k) (h k (omega arith) (get L s X)) X q hq t ∙ turns-unseen P k (λ i l. h i (omega arith)) q hq t

@@ -98,7 +98,8 @@ Has s (held a j f) = (a < s .n) × (j < s .p) × (f < heldFields)
 abbrev pub wordsOf : Shape → ℕ
 wordsOf s = heads + productFields * s .p + s .n * (fields + heldFields * s .p)
 
--- A layout gives each place of a shape a word of its own. In each the head's words stand first, and a product's words and an account's in a row.
+-- A layout gives each place of a shape a word of its own, and has no other words. In each the head's words stand first, and a product's words and an
+-- account's in a row.
 pub record Layout : Type 0 where
   pub at : Shape → Place → ℕ
   pub first : (s : Shape) (k : ℕ) → at s (head k) ≡ k
@@ -106,6 +107,8 @@ pub record Layout : Type 0 where
   pub row : (s : Shape) (a f : ℕ) → at s (acct a f) ≡ at s (acct a 0) + f
   pub inside : (s : Shape) (q : Place) → Has s q → at s q < wordsOf s
   pub same : (s : Shape) (q r : Place) → Has s q → Has s r → at s q ≡ at s r → q ≡ r
+  pub which : Shape → ℕ → Place
+  pub reached : (s : Shape) (i : ℕ) → i < wordsOf s → Has s (which s i) × (at s (which s i) ≡ i)
 
 -- what a ledger says at each place
 abbrev pub View : Type 0

@@ -8,7 +8,7 @@ use native.Mathlib.Nat.{lt-of-not-le}
 use native.Mathlib.Omega.{arith}
 use lib.IntN.{ℤ, pos}
 use lib.ListN.{length, getD, set, length-set}
-use lib.Seq.{getD-set-same, getD-set-other, set-comm}
+use lib.Seq.{getD-set-same, getD-set-other, set-comm, ext-getD}
 use Rattle.places.specs.declared.Shape.{Shape}
 use Rattle.places.specs.Act.{mostAccounts, mostProducts}
 use Rattle.places.specs.Place.{Place, head, prod, acct, held, heads, productFields, fields, Has, wordsOf, Layout, Put, get, put, puts, each}
@@ -50,6 +50,13 @@ module _ (L : Layout) (s : Shape) where
   pub puts-append : (us vs : List Put) (W : List ℤ) → puts L s W (us ++ vs) ≡ puts L s (puts L s W us) vs
   puts-append [] vs W = refl
   puts-append (u ∷ us) vs W = puts-append us vs (put L s W (u .place) (u .word))
+
+  -- words that say the same at every place are the same words
+  pub words-same : (X Y : List ℤ) → length X ≡ wordsOf s → length Y ≡ wordsOf s → ((q : Place) → Has s q → get L s X q ≡ get L s Y q) → X ≡ Y
+  words-same X Y x y e =
+      ext-getD (pos 0) X Y (x ∙ sym y) (λ i l.
+      let r = L .reached s i (rw x at l) in
+      subst (λ k. getD X k (pos 0) ≡ getD Y k (pos 0)) (r .1) (e (L .which s i) (r .0)))
 
   -- which stands behind the head's words
   pub past-head : (q : Place) → Has s q → Behind q → heads ≤ L .at s q

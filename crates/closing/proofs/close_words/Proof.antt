@@ -1,31 +1,55 @@
--- `close_words` meets its contract: the room that is lent has a word for each product. Assumes nothing.
-use mathlib.Core.Path.{sym}
-use lib.Seq.{length-take-le}
+-- `close_words` meets its contract: accounts begun, products walked, phase 0: the words of the close (`walked-is`). Assumes nothing.
+use mathlib.Core.Path.{_≡_, sym, ap, subst, _∙_}
+use mathlib.Core.List.{List}
+use lib.IntN.{ℤ, pos}
+use Rattle.places.specs.declared.Shape.{Shape}
+use Rattle.places.specs.Place.{View, get, put, each, phase}
+use Rattle.places.specs.ByAccount.{byAccount}
+use Rattle.places.specs.Passes.{sized-of}
+use Rattle.closing.specs.Walk.{beginPuts, walked}
+use Rattle.closing.specs.Stages.{Begun, begun-ready, walked-is}
 use borrow.Author.Needs.{needs}
 use Rattle.closing.proofs.close_words.Statement.{statement}
 use Rattle.closing.proofs.close_words.Tie as tie
 
-array-borrow-prefix-singles : tie.Need-array-borrow-prefix-singles
-array-borrow-prefix-singles c = search needs
+module _ (s : tie.Start) where
+  abbrev S : Shape
+  S = s .args .s
 
-slice-aggregate-close-by : tie.Need-slice-aggregate-close-by
-slice-aggregate-close-by c = sym (length-take-le _ _ (c .before .before .pre .0 .few′))
+  abbrev W : List ℤ
+  W = s .args .words .now
 
-close-by-requires : tie.Need-close-by-requires
-close-by-requires c κs = let s = c .before .before in (s .pre .0, (s .pre .1 .0, (s .pre .1 .1 .0, (s .pre .1 .1 .1, length-take-le _ _ (s .pre .0 .few′)))))
+  abbrev g : View
+  g = get byAccount S W
+
+begin-accounts-requires : tie.Need-begin-accounts-requires
+begin-accounts-requires c κs = search needs
+
+close-products-requires : tie.Need-close-products-requires
+close-products-requires c κs =
+    let b = c .before .before in let s = b .before .before in let a = s .args in let e = b .begin-accounts .ensures in (
+      sized-of byAccount (S s) (W s) (b .begin-accounts .last .0) (each (S s .n) (beginPuts (g s))) e (s .pre .0),
+      (
+        subst (λ X. Begun (a .prices .now) (S s) (get byAccount (S s) X)) (sym e)
+            (begun-ready byAccount (a .prices .now) (a .rates8 .now) (a .rates104 .now) (a .lags .now) (S s) (W s) (s .pre .0 .sized) (s .pre .1 .0)),
+        (s .pre .1 .1 .0, s .pre .1 .1 .1),
+      ),
+    )
+
+put-head-requires : tie.Need-put-head-requires
+put-head-requires c κs = search needs
 
 same-length : tie.Need-same-length
 same-length c = search needs
 
 returns : tie.Need-returns
-returns c = search needs
+returns c =
+    let h = c .before in let k = h .before .before .before in let b = k .before .before .before in let s = b .before .before in let a = s .args in
+    h .put-head .ensures
+    ∙ ap (λ X. put byAccount (S s) X phase (pos 0))
+    (k .close-products .ensures ∙ ap (walked byAccount (S s) (a .prices .now) (a .rates8 .now) (a .rates104 .now) (a .lags .now) (S s .p)) (b .begin-accounts .ensures))
+    ∙ walked-is byAccount (a .prices .now) (a .rates8 .now) (a .rates104 .now) (a .lags .now) (S s) (W s) (s .pre .0 .sized) (s .pre .1 .1 .1 .names)
 
 pub close-words-spec : {M : Type 1} → statement M
 close-words-spec =
-    tie.close
-    (tie.spec
-    array-borrow-prefix-singles
-    slice-aggregate-close-by
-    close-by-requires
-    same-length
-    returns)
+    tie.close (tie.spec begin-accounts-requires close-products-requires put-head-requires same-length returns)
