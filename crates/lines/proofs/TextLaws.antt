@@ -168,6 +168,41 @@ numeral-plain text at d first r =
     ap (λ (x : LeadingDigits). plainOf (getD text at 0) at (x .end) (x .value)) r ∙ plain-cap (getD text at 0) at _ (natFrom 0 (leadingDigits (drop at text))) (cap _) ∙
     rw (ne-eqb (getD text at 0) 45 first)
 
+-- ---- a run of one digit
+empty-is : (l : List ℕ) → length l ≡ 0 → l ≡ []
+empty-is [] e = refl
+empty-is (x ∷ l) e = absurd (omega arith)
+
+small-cap : (v : ℕ) → v < 10 → Capped v → capped v ≡ v
+small-cap v h (under e l) = e
+small-cap v h (over e l) = omega arith
+
+one-by : (b : ℕ) (bs : List ℕ) (low high : Bool) → ltb 57 b ≡ high →
+    length (cond low [] (cond high [] (b ∷ leadingDigits bs))) ≡ 1 → capped (natFrom 0 (cond low [] (cond high [] (b ∷ leadingDigits bs)))) ≡ b - 48
+one-by b bs true high e k = omega arith
+one-by b bs false true e k = omega arith
+one-by b bs false false e k =
+    ap (λ (l : List ℕ). capped (natFrom (0 + (b - 48)) l)) (empty-is (leadingDigits bs) (omega arith)) ∙
+    small-cap (0 + (b - 48)) (omega (arith, ltb-false 57 b e)) (cap _) ∙ omega arith
+
+pub one-digit : (text : List ℕ) (at : ℕ) (d : LeadingDigits) → at < length text → d ≡ digitsAt text at → d .end ≡ at + 1 → d .value ≡ getD text at 0 - 48
+unfolding digitsAt
+one-digit text at d within r e =
+    let k = drop-cons text at 0 within in
+    ap (λ (x : LeadingDigits). x .value) r ∙ ap (λ (s : List ℕ). capped (natFrom 0 (leadingDigits s))) k ∙
+    one-by (getD text at 0) (drop (suc at) text) (ltb (getD text at 0) 48) (ltb 57 (getD text at 0)) refl
+    (omega (arith, e, ap (λ (x : LeadingDigits). x .end) r, ap (λ (s : List ℕ). length (leadingDigits s)) k))
+
+one-plain-by : (lead from end value : ℕ) (t : Bool) → eqb lead 48 ≡ t → lead < 256 → end ≡ from + 1 → value ≡ lead - 48 →
+    Value (pos value) end ≡ plainOf lead from end value
+one-plain-by lead from end value true t h one v =
+    rw (ne-eqb end from (omega arith), t, eq-eqb end (from + 1) one) (ap (λ (n : ℕ). Value (pos n) end) (omega (arith, eqb-true lead 48 t)))
+one-plain-by lead from end value false t h one v = rw (ne-eqb end from (omega arith), t, le-ltb 9223372036854775807 value (omega arith))
+
+-- a single digit is its own number, 0 too
+pub one-plain : (lead from end value : ℕ) → lead < 256 → end ≡ from + 1 → value ≡ lead - 48 → Value (pos value) end ≡ plainOf lead from end value
+one-plain lead from end value = one-plain-by lead from end value (eqb lead 48) refl
+
 -- ---- the negative of a number below 2 ^ 63
 pub neg-is : (v : ℕ) → pos 0 -ℤ pos v ≡ negℤ (pos v)
 neg-is v = +ℤ-idl (negℤ (pos v))

@@ -3,7 +3,7 @@
 // found what it looked for.
 ghost use mathlib.Core.Path.{_≡_};
 ghost use mathlib.Core.List.{_∷_};
-ghost use Prim.Native.Nat.{_+_, _*_, _<_, _≤_};
+ghost use Prim.Native.Nat.{_+_, _-_, _*_, _<_, _≤_};
 ghost use lib.IntN.{pos};
 ghost use lib.ListN.{length, getD};
 ghost use lib.Seq.{sets};
@@ -125,19 +125,21 @@ fn minus_of(lead: u8, from: usize, end: usize, value: u64) -> Numeral
     Numeral::Value(0 - n, end)
 }
 
-// The number of a run of digits with no sign.
+// The number of a run of digits with no sign. A single digit, 0 too, is its own number. The run's length is asked before its leading digit: the
+// loop over the digits has just branched on the length, so that a processor foretells it; nothing foretells which single digits are 0.
 fn plain_of(lead: u8, from: usize, end: usize, value: u64) -> Numeral
-    requires { ⌜ from < 18446744073709551615 ⌝ }
+    requires { ⌜ from < 18446744073709551615 ⌝ ∗ ⌜ (end ≡ from + 1 → value ≡ lead - 48) ⌝ }
     ensures { λ r. ⌜ r ≡ plainOf lead from end value ⌝ }
 {
     if end == from {
         return Numeral::Bad;
     }
+    if end == from + 1 {
+        let digit = value as i64;
+        return Numeral::Value(digit, end);
+    }
     if lead == b'0' {
-        if end != from + 1 {
-            return Numeral::Bad;
-        }
-        return Numeral::Value(0, end);
+        return Numeral::Bad;
     }
     if value > 9223372036854775807 {
         return Numeral::Bad;
@@ -292,6 +294,18 @@ pub fn put_digits(out: &mut [u8], at: usize, n: u64) -> usize
     e + 1
 }
 
+// The same. Most numbers of a sheet have one digit: it is written without a call.
+fn put_natural(out: &mut [u8], at: usize, n: u64) -> usize
+    requires { ⌜ at + 20 ≤ length (now out) ⌝ }
+    ensures { λ r. ⌜ (r ≡ at + length (natural n)) × (now (out .exit) ≡ sets (now (out .entry)) at (natural n)) ⌝ }
+{
+    if n < 10 {
+        out[at] = b'0' + n as u8;
+        return at + 1;
+    }
+    put_digits(out, at, n)
+}
+
 // A signed number in decimal.
 pub fn put_number(out: &mut [u8], at: usize, x: i64) -> usize
     requires { ⌜ at + 21 ≤ length (now out) ⌝ }
@@ -299,9 +313,9 @@ pub fn put_number(out: &mut [u8], at: usize, x: i64) -> usize
 {
     if x < 0 {
         out[at] = b'-';
-        return put_digits(out, at + 1, whole::nat_abs(x));
+        return put_natural(out, at + 1, whole::nat_abs(x));
     }
-    put_digits(out, at, whole::nat_abs(x))
+    put_natural(out, at, whole::nat_abs(x))
 }
 
 // The bytes of a word.
@@ -322,7 +336,7 @@ pub fn put_count(out: &mut [u8], at: usize, n: u64, close: u8) -> usize
     requires { ⌜ at + 21 ≤ length (now out) ⌝ }
     ensures { λ r. ⌜ (r ≡ at + length (field (pos n) close)) × (now (out .exit) ≡ sets (now (out .entry)) at (field (pos n) close)) ⌝ }
 {
-    let e = put_digits(out, at, n);
+    let e = put_natural(out, at, n);
     out[e] = close;
     e + 1
 }

@@ -1,6 +1,7 @@
 -- The capped value passes and fails the same tests as the value itself.
 use mathlib.Core.Path.{_∙_}
-use Rattle.lines.proofs.TextLaws.{numeral-none, numeral-minus, numeral-plain}
+use native.Mathlib.Omega.{arith}
+use Rattle.lines.proofs.TextLaws.{numeral-none, numeral-minus, numeral-plain, one-digit}
 use borrow.Author.Needs.{needs}
 use Rattle.lines.proofs.number_at.Statement.{statement}
 use Rattle.lines.proofs.number_at.Tie as tie
@@ -32,7 +33,9 @@ digits-requires-2 : tie.Need-digits-requires-2
 digits-requires-2 c κs = search needs
 
 plain-of-requires : tie.Need-plain-of-requires
-plain-of-requires c κs = search needs
+plain-of-requires c κs =
+    let a = c .before .before .before .before .before .args in
+    (omega arith, one-digit (a .text .now) (a .at) (c .digits2 .result) (omega arith) (c .digits2 .ensures))
 
 returns-3 : tie.Need-returns-3
 returns-3 c =
