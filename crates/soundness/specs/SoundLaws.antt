@@ -2,7 +2,7 @@
 use mathlib.Core.Path.{_≡_, sym, ap, _∙_}
 use mathlib.Core.Logic.{_≢_}
 use mathlib.Core.List.{List}
-use mathlib.Core.Bool.{true, _&&_}
+use mathlib.Core.Bool.{Bool, true, _&&_}
 use borrow.Author.Tests.{ne-eqb, eqb-false}
 use Prim.Native.Nat.{ℕ, suc, _+_, _-_, _*_, _<_, _≤_}
 use native.Mathlib.Omega.{arith}
@@ -86,25 +86,28 @@ facts s g e =
       to-come = λ ne. or-yes (eqb (turn g) 0) (stays (s .n + 1 - turn g) (g house) (turn g - 1) g) (e₂ .1) (ne-eqb (turn g) 0 ne);
     }
 
--- the facts that `figuresOk` alone gives, before the last two clauses are tested
-pub phase-in : (s : Shape) (g : View) → figuresOk s g ≡ true → between (pos 0) (pos (s .n + 1)) (g phase) ≡ true
-phase-in s g e =
-    let h = headOk s g in let p = all (s .p) (productOk g) in let a = all (s .n) (λ a. accountOk (accountAt g a)) in
-    let e₁ = both (h && p && a) (all (s .p) (positionsOk (s .n) g)) e in
-    both (within mostHouse (g house)) (between (pos 0) (pos (s .n + 1)) (g phase)) (both h p (both (h && p) a (e₁ .0) .0) .0) .1
+-- `figuresOk` without the positions: what is known before the clauses of the run are tested, and what it gives them
+abbrev pub recordsOk : Shape → View → Bool
+recordsOk s g = headOk s g && all (s .p) (productOk g) && all (s .n) (λ a. accountOk (accountAt g a))
 
-pub house-in : (s : Shape) (g : View) → figuresOk s g ≡ true → natAbs (g house) ≤ mostHouse
-house-in s g e =
-    let h = headOk s g in let p = all (s .p) (productOk g) in let a = all (s .n) (λ a. accountOk (accountAt g a)) in
-    let e₁ = both (h && p && a) (all (s .p) (positionsOk (s .n) g)) e in
-    within-true mostHouse (g house) (both (within mostHouse (g house)) (between (pos 0) (pos (s .n + 1)) (g phase)) (both h p (both (h && p) a (e₁ .0) .0) .0) .0)
+pub records-in : (s : Shape) (g : View) → figuresOk s g ≡ true → recordsOk s g ≡ true
+records-in s g e = both (recordsOk s g) (all (s .p) (positionsOk (s .n) g)) e .0
 
-pub dues-in : (s : Shape) (g : View) → figuresOk s g ≡ true → DuesIn s g
-dues-in s g e =
-    let h = headOk s g in let p = all (s .p) (productOk g) in let a = all (s .n) (λ a. accountOk (accountAt g a)) in
-    let e₁ = both (h && p && a) (all (s .p) (positionsOk (s .n) g)) e in
-    let e₂ = both (h && p) a (e₁ .0) in
-    record { at = λ b k. account-facts (accountAt g b) (all-at (s .n) (λ a. accountOk (accountAt g a)) (e₂ .1) b k) .due0-in }
+module _ (s : Shape) (g : View) (e : recordsOk s g ≡ true) where
+  records : (headOk s g && all (s .p) (productOk g) ≡ true) × (all (s .n) (λ a. accountOk (accountAt g a)) ≡ true)
+  records = both (headOk s g && all (s .p) (productOk g)) (all (s .n) (λ a. accountOk (accountAt g a))) e
+
+  head : (within mostHouse (g house) ≡ true) × (between (pos 0) (pos (s .n + 1)) (g phase) ≡ true)
+  head = both (within mostHouse (g house)) (between (pos 0) (pos (s .n + 1)) (g phase)) (both (headOk s g) (all (s .p) (productOk g)) (records .0) .0)
+
+  pub phase-in : between (pos 0) (pos (s .n + 1)) (g phase) ≡ true
+  phase-in = head .1
+
+  pub house-in : natAbs (g house) ≤ mostHouse
+  house-in = within-true mostHouse (g house) (head .0)
+
+  pub dues-in : DuesIn s g
+  dues-in = record { at = λ a k. account-facts (accountAt g a) (all-at (s .n) (λ a. accountOk (accountAt g a)) (records .1) a k) .due0-in }
 
 pub from-facts : (s : Shape) (g : View) → Facts s g → placesOk s g ≡ true
 from-facts s g f =

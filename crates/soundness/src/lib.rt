@@ -13,6 +13,7 @@ ghost use Rattle.places.specs.PlaceLaws.{Sized};
 ghost use Rattle.places.specs.ByAccount.{byAccount};
 ghost use Rattle.places.specs.Act.{mostAccounts, mostProducts, shapeOf, shapeOk};
 ghost use Rattle.soundness.specs.Sound as S;
+ghost use Rattle.soundness.specs.SoundLaws.{recordsOk};
 ghost use Rattle.soundness.specs.Perform as P;
 use places::Shape;
 use rules::Account;
@@ -102,10 +103,10 @@ fn head_ok(words: &[i64], s: Shape) -> bool
     )
 }
 
-// The first four clauses: head, products, accounts, positions.
-fn figures_ok(words: &[i64], s: Shape) -> bool
+// Head, products and accounts in range: what the clauses of the run stand on.
+fn records_ok(words: &[i64], s: Shape) -> bool
     requires { ⌜ Sized s (now words) ⌝ }
-    ensures { λ r. ⌜ r ≡ S.figuresOk s (get byAccount s (now (words .entry))) ⌝ }
+    ensures { λ r. ⌜ r ≡ recordsOk s (get byAccount s (now (words .entry))) ⌝ }
 {
     if !head_ok(words, s) {
         return false;
@@ -113,20 +114,21 @@ fn figures_ok(words: &[i64], s: Shape) -> bool
     if !products::products_ok(words, s) {
         return false;
     }
-    if !accounts_ok(words, s) {
-        return false;
-    }
-    positions::all_positions_ok(words, s)
+    accounts_ok(words, s)
 }
 
+// The positions are most of the words. They come last, after the clauses of the run, so that no other figure is kept during the walk over them.
 fn places_ok(words: &[i64], s: Shape) -> bool
     requires { ⌜ Sized s (now words) ⌝ }
     ensures { λ r. ⌜ r ≡ S.placesOk s (get byAccount s (now (words .entry))) ⌝ }
 {
-    if !figures_ok(words, s) {
+    if !records_ok(words, s) {
         return false;
     }
-    run::run_ok(words, s)
+    if !run::run_ok(words, s) {
+        return false;
+    }
+    positions::all_positions_ok(words, s)
 }
 
 // ---- the gate

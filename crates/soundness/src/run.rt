@@ -11,7 +11,7 @@ ghost use Rattle.places.specs.Place.{get, due};
 ghost use Rattle.places.specs.PlaceLaws.{Sized};
 ghost use Rattle.places.specs.ByAccount.{byAccount};
 ghost use Rattle.soundness.specs.Sound as S;
-ghost use Rattle.soundness.specs.SoundLaws.{DuesIn};
+ghost use Rattle.soundness.specs.SoundLaws.{DuesIn, recordsOk};
 use places::Shape;
 
 // Whether due 0 is zero in the first `done` accounts.
@@ -51,10 +51,10 @@ pub fn stays(words: &[i64], s: Shape, house: i64, from: usize) -> bool
     true
 }
 
-// The last two clauses of soundness, where the others hold.
+// The last two clauses of soundness, where head, products and accounts are in range.
 pub fn run_ok(words: &[i64], s: Shape) -> bool
     requires { ⌜ Sized s (now words) ⌝ }
-    requires { ⌜ S.figuresOk s (get byAccount s (now words)) ≡ true ⌝ }
+    requires { ⌜ recordsOk s (get byAccount s (now words)) ≡ true ⌝ }
     ensures { λ r. ⌜ r ≡ (S.doneOk (get byAccount s (now (words .entry))) && S.toComeOk s (get byAccount s (now (words .entry)))) ⌝ }
 {
     let turn = whole::nat_abs(places::head_word(words, s, places::PHASE)) as usize;

@@ -3,6 +3,7 @@ use Prim.Native.Nat.{_+_, _-_, _≤_}
 use native.Mathlib.Omega.{arith}
 use borrow.Author.Needs.{needs}
 use mathlib.Core.Path.{_≡_, sym, ap, _∙_}
+use mathlib.Core.Bool.{true}
 use lib.IntN.{pos, natAbs}
 use Rattle.whole.specs.Number.{unless}
 use Rattle.whole.specs.Tests.{fails, holds, in-range}
@@ -10,7 +11,7 @@ use Rattle.whole.specs.Signs.{came}
 use Rattle.places.specs.Place.{View, get, phase}
 use Rattle.places.specs.ByAccount.{byAccount}
 use Rattle.soundness.specs.Sound as S
-use Rattle.soundness.specs.SoundLaws.{begun, phase-in, house-in, dues-in}
+use Rattle.soundness.specs.SoundLaws.{begun, recordsOk, records-in, phase-in, house-in, dues-in}
 use Rattle.clauses.specs.declared.Failing.{Failing}
 use Rattle.clauses.specs.Clauses as F
 use Rattle.clauses.specs.ClauseLaws.{tested, or-first, or-later, run-idle}
@@ -29,9 +30,12 @@ toCome s = unless (S.toComeOk (s .args .s) (g s)) (F.fails 20 0 0 (pos 0)) F.non
 turned : (c : tie.After-nat-abs) → c .nat-abs .result ≡ S.turn (g (c .before .before))
 turned c = let w = c .before .head-word in c .nat-abs .ensures ∙ ap natAbs (came (w .result) (w .ok) (w .ensures))
 
+records : (s : tie.Start) → recordsOk (s .args .s) (g s) ≡ true
+records s = records-in (s .args .s) (g s) (s .pre .1)
+
 -- the phase is one of the ledger's
 most : (s : tie.Start) → S.turn (g s) ≤ s .args .s .n + 1
-most s = in-range 0 (s .args .s .n + 1) (g s phase) (phase-in (s .args .s) (g s) (s .pre .1)) .high
+most s = in-range 0 (s .args .s .n + 1) (g s phase) (phase-in (s .args .s) (g s) (records s)) .high
 
 first : (c : tie.After-first-done) → c .first-done .result ≡ done (c .before .before .before .before)
 first c = let d = c .before .before in c .first-done .ensures ∙ ap (λ k. F.firstOf (k - 1) (F.ofDone (g (d .before .before)))) (turned d)
@@ -68,7 +72,7 @@ head-word-requires-2 c κs = search needs
 stays-requires : tie.Need-stays-requires
 stays-requires c κs =
     let w = c .head-word2 in let d = c .before .before .before .before .before in let s = d .before .before in
-    (s .pre .0, (dues-in (s .args .s) (g s) (s .pre .1), (rw (came (w .result) (w .ok) (w .ensures)) (house-in (s .args .s) (g s) (s .pre .1)), omega (arith, turned d, most s))))
+    (s .pre .0, (dues-in (s .args .s) (g s) (records s), (rw (came (w .result) (w .ok) (w .ensures)) (house-in (s .args .s) (g s) (records s)), omega (arith, turned d, most s))))
 
 fails-requires : tie.Need-fails-requires
 fails-requires c κs = search needs
