@@ -8,26 +8,12 @@ ghost use Rattle.whole.specs.Counting.{one-if, listed};
 ghost use Rattle.whole.specs.Listed.{filled};
 ghost use Rattle.whole.specs.Reps.{Each};
 ghost use Rattle.portions.specs.Share as S;
-ghost use Rattle.portions.specs.Cut.{Cuts, Seen};
+ghost use Rattle.portions.specs.Cut.{Cuts, Seen, manyAbove};
 ghost use Rattle.portions.specs.Bounds.{Weights, most-amount, most-members};
 use crate::divide::part_of;
 use crate::divide::ratio_of;
 
 mod divide;
-
-// The sum of the weights.
-pub fn sum_of(weights: &[u64]) -> u64
-    requires { ⌜ Weights (now weights) ⌝ }
-    ensures { λ r. ⌜ r ≡ S.sumOf (now (weights .entry)) ⌝ }
-{
-    let mut sum: u64 = 0;
-    let mut i: usize = 0;
-    while i < weights.len() {
-        sum += weights[i];
-        i += 1;
-    }
-    sum
-}
 
 // Writes each member's floor, and his remainder beside it; the yen left.
 fn floors(amount: u64, sum: u64, weights: &[u64], remainders: &mut [u64], out: &mut [i64]) -> u64
@@ -57,19 +43,28 @@ fn comes_before(x: u64, j: usize, y: u64, i: usize) -> bool
     if x == y { j < i } else { y < x }
 }
 
-// How many of n members come before member i.
-fn how_many_before(remainders: &[u64], n: usize, i: usize) -> u64
-    requires { ⌜ n ≤ most-members ⌝ ∗ ⌜ i < n ⌝ ∗ ⌜ n ≤ length (now remainders) ⌝ }
-    ensures { λ r. ⌜ r ≡ S.howManyBefore n (S.ofMember (now (remainders .entry))) i ⌝ }
+// How many of the members from `from` on and below `to` have a remainder above x.
+fn how_many_above(x: u64, remainders: &[u64], from: usize, to: usize) -> u64
+    requires { ⌜ from ≤ to ⌝ ∗ ⌜ to ≤ most-members ⌝ ∗ ⌜ to ≤ length (now remainders) ⌝ }
+    ensures { λ r. ⌜ manyAbove from (S.ofMember (now (remainders .entry))) x + r ≡ manyAbove to (S.ofMember (now (remainders .entry))) x ⌝ }
 {
-    let own = remainders[i];
     let mut many: u64 = 0;
-    let mut j: usize = 0;
-    while j < n {
-        many += comes_before(remainders[j], j, own, i) as u64;
+    let mut j: usize = from;
+    while j < to {
+        many += (x < remainders[j]) as u64;
         j += 1;
     }
     many
+}
+
+// How many of n members come before member i, whose remainder is not 0: lower accounts with a remainder no smaller, higher ones with a larger one. Two
+// plain counts compare less than one that asks of each member who comes first.
+fn how_many_before(remainders: &[u64], n: usize, i: usize) -> u64
+    requires { ⌜ n ≤ most-members ⌝ ∗ ⌜ i < n ⌝ ∗ ⌜ n ≤ length (now remainders) ⌝ ∗ ⌜ 0 < S.ofMember (now remainders) i ⌝ }
+    ensures { λ r. ⌜ r ≡ S.howManyBefore n (S.ofMember (now (remainders .entry))) i ⌝ }
+{
+    let own = remainders[i];
+    how_many_above(own - 1, remainders, 0, i) + how_many_above(own, remainders, i, n)
 }
 
 // x, or a yen more.
@@ -80,24 +75,26 @@ fn with_yen(x: i64, more: bool) -> i64
     if more { x + 1 } else { x }
 }
 
-// What is known of the cut between the members who get a yen and those who get none: the last found to get one, and the first found to get none.
+// What is known of the cut between the members who get a yen and those who get none: the last found to get one, and the largest remainder of one found
+// to get none.
 struct Cut {
     last: u64,
     owner: usize,
     next: u64,
-    other: usize,
 }
 
-// Looks at member i. How many come before him is counted only where he stands between the two.
+// Looks at member i. How many come before him is counted only where his remainder stands between the two. On a tie with one of them he comes after
+// that one, who was seen first.
 fn narrow(yen: u64, remainders: &[u64], n: usize, i: usize, cut: Cut) -> Cut
-    requires { ⌜ n ≤ most-members ⌝ ∗ ⌜ i < n ⌝ ∗ ⌜ n ≤ length (now remainders) ⌝ ∗ ⌜ Seen n (S.ofMember (now remainders)) yen i (cut .last) (cut .owner) (cut .next) (cut .other) ⌝ }
-    ensures { λ r. ⌜ Seen n (S.ofMember (now (remainders .entry))) yen (i + 1) (r .last) (r .owner) (r .next) (r .other) ⌝ }
+    requires { ⌜ n ≤ most-members ⌝ ∗ ⌜ i < n ⌝ ∗ ⌜ n ≤ length (now remainders) ⌝ }
+    requires { ⌜ Seen n (S.ofMember (now remainders)) yen i (cut .last) (cut .owner) (cut .next) ⌝ }
+    ensures { λ r. ⌜ Seen n (S.ofMember (now (remainders .entry))) yen (i + 1) (r .last) (r .owner) (r .next) ⌝ }
 {
     let own = remainders[i];
-    if !comes_before(cut.last, cut.owner, own, i) {
+    if cut.last < own {
         return cut;
     }
-    if !comes_before(own, i, cut.next, cut.other) {
+    if own <= cut.next {
         return cut;
     }
     if how_many_before(remainders, n, i) < yen {
@@ -105,28 +102,26 @@ fn narrow(yen: u64, remainders: &[u64], n: usize, i: usize, cut: Cut) -> Cut
             last: own,
             owner: i,
             next: cut.next,
-            other: cut.other,
         }
     } else {
         Cut {
             last: cut.last,
             owner: cut.owner,
             next: own,
-            other: i,
         }
     }
 }
 
-// The cut, when all n members are seen. `sum` is above every remainder.
+// The cut, when all n members are seen. `sum` is above every remainder, and nobody without a remainder gets a yen.
 fn cut_of(yen: u64, sum: u64, remainders: &[u64], n: usize) -> Cut
     requires { ⌜ n ≤ most-members ⌝ ∗ ⌜ n ≤ length (now remainders) ⌝ ∗ ⌜ ((i : ℕ) → i < n → S.ofMember (now remainders) i < sum) ⌝ }
+    requires { ⌜ ((i : ℕ) → i < n → S.howManyBefore n (S.ofMember (now remainders)) i < yen → 0 < S.ofMember (now remainders) i) ⌝ }
     ensures { λ r. ⌜ Cuts n (S.ofMember (now (remainders .entry))) yen (r .last) (r .owner) ⌝ }
 {
     let mut cut = Cut {
         last: sum,
         owner: 0,
         next: 0,
-        other: n,
     };
     let mut i: usize = 0;
     while i < n {

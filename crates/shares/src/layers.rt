@@ -3,13 +3,12 @@ ghost use mathlib.Core.Path.{_≡_};
 ghost use Prim.Native.Nat.{_≤_, min};
 ghost use lib.IntN.{natAbs};
 ghost use lib.ListN.{length};
-ghost use Rattle.whole.specs.Counting.{listed};
+ghost use Rattle.whole.specs.Counting.{total, listed};
 ghost use Rattle.whole.specs.Reps.{Each};
 ghost use Rattle.portions.specs.Bounds.{most-members};
 ghost use Rattle.shares.specs.Loss as L;
 ghost use Rattle.shares.specs.Accepted.{Lengths};
 use portions::share;
-use portions::sum_of;
 use whole::up;
 
 // What a member weighs in a layer: a survivor's figure, where it is positive. A defaulter weighs nothing.
@@ -37,16 +36,22 @@ fn negative_of(mark: i64, difference: i64) -> u64
     }
 }
 
-// Writes every member's weight.
-fn weigh(marks: &[i64], figures: &[i64], weights: &mut [u64])
+// Writes every member's weight; their sum, so that what was just written need not be read back for it.
+fn weigh(marks: &[i64], figures: &[i64], weights: &mut [u64]) -> u64
     requires { ⌜ length (now marks) ≡ length (now figures) ⌝ ∗ ⌜ length (now weights) ≡ length (now figures) ⌝ }
+    requires { ⌜ length (now figures) ≤ most-members ⌝ ∗ ⌜ Each L.most-figure (now figures) ⌝ }
+    ensures { λ r. ⌜ r ≡ total (length (now (figures .entry))) (L.weight (now (marks .entry)) (now (figures .entry))) ⌝ }
     ensures { λ _. ⌜ now (weights .exit) ≡ listed (length (now (figures .entry))) (L.weight (now (marks .entry)) (now (figures .entry))) ⌝ }
 {
+    let mut sum: u64 = 0;
     let mut i: usize = 0;
     while i < figures.len() {
-        weights[i] = weight_of(marks[i], figures[i]);
+        let weight = weight_of(marks[i], figures[i]);
+        weights[i] = weight;
+        sum += weight;
         i += 1;
     }
+    sum
 }
 
 // The defaulters' negative differences together, in absolute value.
@@ -77,8 +82,7 @@ fn layer(most: u64, marks: &[i64], figures: &[i64], weights: &mut [u64], out: &m
     ensures { λ _. ⌜ now (out .exit) ≡ L.layerShares most (now (marks .entry)) (now (figures .entry)) ⌝ }
     ensures { λ _. ⌜ now (weights .exit) ≡ listed (length (now (figures .entry))) (L.weight (now (marks .entry)) (now (figures .entry))) ⌝ }
 {
-    weigh(marks, figures, weights);
-    let sum = sum_of(weights);
+    let sum = weigh(marks, figures, weights);
     let amount = least(most, sum);
     share(amount, sum, weights, out);
     amount

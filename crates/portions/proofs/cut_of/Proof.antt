@@ -8,13 +8,13 @@ use Rattle.portions.proofs.cut_of.Statement.{statement}
 use Rattle.portions.proofs.cut_of.Tie as tie
 
 abbrev Inv-loop : tie.InvT-loop
-Inv-loop yen sum remainders n cut₀ i₀ cut i = (i ≤ n) × Seen n (ofMember remainders) yen i (cut .last) (cut .owner) (cut .next) (cut .other)
+Inv-loop yen sum remainders n cut₀ i₀ cut i = (i ≤ n) × Seen n (ofMember remainders) yen i (cut .last) (cut .owner) (cut .next)
 
 abbrev μ-loop : tie.MeasureT-loop
 μ-loop yen sum remainders n cut₀ i₀ cut i = n - i
 
 loop-holds : tie.Need-loop-holds Inv-loop μ-loop
-loop-holds c = (zero-le, seen-none (c .before .args .sum) (c .before .pre .1 .1))
+loop-holds c = let p = c .before .pre .1 .1 in (zero-le, seen-none (c .before .args .sum) (p .0) (p .1))
 
 narrow-requires : tie.Need-narrow-requires Inv-loop μ-loop
 narrow-requires c κs = (c .before .before .before .pre .0, (omega arith, (c .before .before .before .pre .1 .0, c .before .loop .inv .1)))

@@ -1,7 +1,6 @@
 -- `narrow` meets its contract: a member outside the two tells nothing new, and how many come before one between them says on which side he is.
 -- Assumes nothing.
 use borrow.Author.Needs.{needs}
-use Rattle.whole.specs.Tests.{fails, holds}
 use Rattle.portions.specs.Cut.{early, late, owns, lacks}
 use Rattle.portions.proofs.narrow.Statement.{statement}
 use Rattle.portions.proofs.narrow.Tie as tie
@@ -12,17 +11,11 @@ mul-own c = search needs
 shared-slice-read-own : tie.Need-shared-slice-read-own
 shared-slice-read-own c = search needs
 
-comes-before-requires : tie.Need-comes-before-requires
-comes-before-requires c κs = search needs
-
 returns : tie.Need-returns
-returns c = let s = c .before .before .before .before in early (s .pre .1 .0) (s .pre .1 .1 .1) (fails (c .before .comes-before .ensures) (c .if1 .taken))
-
-comes-before-requires-2 : tie.Need-comes-before-requires-2
-comes-before-requires-2 c κs = search needs
+returns c = let s = c .before .before .before .before in early (s .pre .1 .0) (s .pre .1 .1 .1) (c .if1 .taken)
 
 returns-2 : tie.Need-returns-2
-returns-2 c = let s = c .before .before .before .before .before .before in late (s .pre .1 .0) (s .pre .1 .1 .1) (fails (c .before .comes-before2 .ensures) (c .if2 .taken))
+returns-2 c = let s = c .before .before .before .before .before .before in late (s .pre .1 .0) (s .pre .1 .1 .1) (c .if2 .taken)
 
 how-many-before-requires : tie.Need-how-many-before-requires
 how-many-before-requires c κs = search needs
@@ -31,14 +24,12 @@ returns-3 : tie.Need-returns-3
 returns-3 c =
     let f = c .before .before .before .before in
     let s = f .before .before .before .before in
-    let p = c .before .how-many-before .ensures in
-    owns (s .pre .1 .0) (s .pre .1 .1 .1) (holds (f .before .comes-before .ensures) (f .if1 .left)) (rw p at (c .if3 .taken))
+    owns (s .pre .1 .0) (s .pre .1 .1 .1) (f .if1 .left) (rw (c .before .how-many-before .ensures) at (c .if3 .taken))
 
 returns-4 : tie.Need-returns-4
 returns-4 c =
     let s = c .before .before .before .before .before .before .before .before in
-    let p = c .before .how-many-before .ensures in
-    lacks (s .pre .1 .0) (s .pre .1 .1 .1) (rw p at (c .if3 .left))
+    lacks (s .pre .1 .0) (s .pre .1 .1 .1) (rw (c .before .how-many-before .ensures) at (c .if3 .left))
 
 pub narrow-spec : {M : Type 1} → statement M
 narrow-spec =
@@ -46,9 +37,7 @@ narrow-spec =
     (tie.spec
     mul-own
     shared-slice-read-own
-    comes-before-requires
     returns
-    comes-before-requires-2
     returns-2
     how-many-before-requires
     returns-3

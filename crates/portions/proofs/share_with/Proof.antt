@@ -10,11 +10,11 @@ use lib.ListN.{length, getD}
 use Rattle.whole.specs.Counting.{total, one-if, listed}
 use Rattle.whole.specs.Listed.{each-of, length-listed, getD-listed, listed-same, filled, length-filled, getD-filled}
 use Rattle.whole.specs.Reps.{Each}
-use Rattle.portions.specs.Share.{ofMember, comesBefore, floorOf, remainderOf, left, shareOf}
+use Rattle.portions.specs.Share.{ofMember, comesBefore, howManyBefore, floorOf, remainderOf, left, shareOf}
 use Rattle.portions.specs.Bounds.{most-amount}
 use Rattle.portions.specs.Order.{many-before-same}
 use Rattle.portions.specs.Cut.{Cuts}
-use Rattle.portions.specs.ShareLaws.{floor-most, rem-lt, share-is}
+use Rattle.portions.specs.ShareLaws.{floor-most, rem-lt, extra-some, share-is}
 use Rattle.portions.proofs.share_with.Statement.{statement}
 use Rattle.portions.proofs.share_with.Tie as tie
 
@@ -30,11 +30,19 @@ module _ (n : ℕ) (w : ℕ → ℕ) (amount : ℕ) (some : 0 < total n w) where
       word k b = rw (getD-listed n (λ i. pos (floorOf n w amount i)) (pos 0) k b) (omega (arith, floor-most n w amount some k b))
 
   module _ (before after : List ℕ) (r : after ≡ filled n (remainderOf n w amount) before) where
+    -- the remainders have their room, are below the sum, and are not 0 where a yen goes
+    room : n ≤ length before → n ≤ length after
+    room h = rw (r, length-filled n (remainderOf n w amount) before h) h
+
     remainder : (i : ℕ) → i < n → ofMember after i ≡ remainderOf n w amount i
     remainder i b = rw r (getD-filled n (remainderOf n w amount) before 0 i b)
 
     below-sum : (i : ℕ) → i < n → ofMember after i < total n w
     below-sum i b = rw (remainder i b) (rem-lt n w amount some i)
+
+    some-remainder : (yen : ℕ) → yen ≡ left n w amount → (i : ℕ) → i < n → howManyBefore n (ofMember after) i < yen → 0 < ofMember after i
+    some-remainder yen y i b h =
+        rw (remainder i b) (extra-some n w amount some i (rw (many-before-same n (ofMember after) (remainderOf n w amount) remainder i b, y) at h))
 
     -- with the yen that are left the floors are the shares
     shared : (yen x j : ℕ) → yen ≡ left n w amount → Cuts n (ofMember after) yen x j → (one two : List ℤ) → one ≡ floors →
@@ -61,8 +69,11 @@ cut-of-requires c κs =
     let r = d .floors .ensures .1 .0 in (
       s .pre .0 .few,
       (
-        omega (arith, ap length r ∙ length-filled (length ws) (remainderOf (length ws) (ofMember ws) (s .args .amount)) (s .args .remainders .now) (s .pre .1 .1 .1 .1 .1)),
-        rw (s .pre .1 .1 .1 .0) (below-sum (length ws) (ofMember ws) (s .args .amount) (some-weight s) _ _ r),
+        room (length ws) (ofMember ws) (s .args .amount) (some-weight s) _ _ r (s .pre .1 .1 .1 .1 .1),
+        (
+          rw (s .pre .1 .1 .1 .0) (below-sum (length ws) (ofMember ws) (s .args .amount) (some-weight s) _ _ r),
+          some-remainder (length ws) (ofMember ws) (s .args .amount) (some-weight s) _ _ r _ (d .floors .ensures .0),
+        ),
       ),
     )
 
@@ -72,8 +83,11 @@ hand-out-requires c κs =
     let s = d .before .before .before .before .before in
     let ws = s .args .weights .now in
     let f = d .floors .ensures .1 .1 in
-    let r = d .floors .ensures .1 .0 in
-    (omega (arith, s .pre .1 .1 .1 .1 .1, ap length f ∙ length-listed (length ws) (λ i. pos (floorOf (length ws) (ofMember ws) (s .args .amount) i)), ap length r ∙ length-filled (length ws) (remainderOf (length ws) (ofMember ws) (s .args .amount)) (s .args .remainders .now) (s .pre .1 .1 .1 .1 .1)), rw f (within (length ws) (ofMember ws) (s .args .amount) (some-weight s) (s .pre .1 .0)))
+    let r = d .floors .ensures .1 .0 in (
+      rw (f, length-listed (length ws) (λ i. pos (floorOf (length ws) (ofMember ws) (s .args .amount) i)))
+          (room (length ws) (ofMember ws) (s .args .amount) (some-weight s) _ _ r (s .pre .1 .1 .1 .1 .1)),
+      rw f (within (length ws) (ofMember ws) (s .args .amount) (some-weight s) (s .pre .1 .0)),
+    )
 
 same-length : tie.Need-same-length
 same-length c = search needs

@@ -51,31 +51,28 @@ module _ (marks figures : List ℤ) (ws : List ℕ) (e : ws ≡ listed (length f
 weigh-requires : tie.Need-weigh-requires
 weigh-requires c κs = search needs
 
-sum-of-requires : tie.Need-sum-of-requires
-sum-of-requires c κs =
-    let s = c .before .before .before .before .before .before in
-    weights-ok (s .args .marks .now) (s .args .figures .now) _ (c .before .before .before .weigh .ensures) (s .pre .1 .1 .1 .0) (s .pre .1 .1 .1 .1 .0)
-
 least-requires : tie.Need-least-requires
 least-requires c κs = search needs
 
 -- how large the layer is
 amount-is : (c : tie.After-least) →
-    let s = c .before .before .before .before .before .before .before .before in
+    let s = c .before .before .before .before .before .before in
     c .least .result ≡ layer (s .args .most) (s .args .marks .now) (s .args .figures .now)
 unfolding layer
-amount-is c =
-    let s = c .before .before .before .before .before .before .before .before in
-    let w = c .before .before .before .before .before in
-    c .least .ensures ∙ rw (c .before .sum-of .ensures, total-is (s .args .marks .now) (s .args .figures .now) _ (w .weigh .ensures)) refl
+amount-is c = c .least .ensures ∙ rw (c .before .before .before .weigh .ensures .0) refl
 
 share-requires : tie.Need-share-requires
 share-requires c κs =
-    let s = c .before .before .before .before .before .before .before .before .before .before in
-    let w = c .before .before .before .before .before .before .before in
+    let s = c .before .before .before .before .before .before .before .before in
+    let w = c .before .before .before .before .before .weigh .ensures in
     let m = s .args .marks .now in
-    let f = s .args .figures .now in
-    (weights-ok m f _ (w .weigh .ensures) (s .pre .1 .1 .1 .0) (s .pre .1 .1 .1 .1 .0), (omega (arith, amount-is (c .before .before), layer-most (s .args .most) m f, s .pre .1 .1 .1 .1 .1), (s .pre .1 .1 .0 ∙ sym (sized m f _ (w .weigh .ensures)), c .before .before .before .sum-of .ensures)))
+    let f = s .args .figures .now in (
+      weights-ok m f _ (w .1) (s .pre .1 .1 .1 .0) (s .pre .1 .1 .1 .1 .0),
+      (
+        omega (arith, amount-is (c .before .before), layer-most (s .args .most) m f, s .pre .1 .1 .1 .1 .1),
+        (s .pre .1 .1 .0 ∙ sym (sized m f _ (w .1)), w .0 ∙ sym (total-is m f _ (w .1))),
+      ),
+    )
 
 same-length : tie.Need-same-length
 same-length c = search needs
@@ -85,19 +82,12 @@ same-length-2 c = search needs
 
 returns : tie.Need-returns
 returns c =
-    let s = c .before .before .before .before .before .before .before .before .before .before .before .before in
-    let w = c .before .before .before .before .before .before .before .before .before in
+    let s = c .before .before .before .before .before .before .before .before .before .before in
+    let w = c .before .before .before .before .before .before .before .weigh .ensures .1 in
     let a = amount-is (c .before .before .before .before) in
-    (a, (shares-are (s .args .marks .now) (s .args .figures .now) _ (w .weigh .ensures) (s .args .most) _ _ a (c .before .share .ensures), w .weigh .ensures))
+    (a, (shares-are (s .args .marks .now) (s .args .figures .now) _ w (s .args .most) _ _ a (c .before .share .ensures), w))
 
 pub layer-spec : {M : Type 1} → statement M
 layer-spec =
     tie.close
-    (tie.spec
-    weigh-requires
-    sum-of-requires
-    least-requires
-    share-requires
-    same-length
-    same-length-2
-    returns)
+    (tie.spec weigh-requires least-requires share-requires same-length same-length-2 returns)
