@@ -54,7 +54,7 @@ rates104 = pos 350 ∷ pos 300 ∷ pos 260 ∷ []
 abbrev lags : List ℤ
 lags = pos 0 ∷ pos 1 ∷ pos 2 ∷ []
 
--- margin: 30 × 1,502,500 × 400 and 10 × 1,620,000 × 260; dues move up, and the cross's difference comes in two days
+-- margin: 30 × 1,502,500 × 400 and 10 × 1,620,000 × 260; dues move down, and the cross's difference comes in two days
 taken : perform byAccount (before (pos 3) (pos 500)) (closeRule prices rates8 rates104 lags)
     ≡ (
       replies 0 (pos 0),

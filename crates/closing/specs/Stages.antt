@@ -2,29 +2,29 @@
 use mathlib.Core.Path.{_≡_, refl, sym, ap, ap₂, subst, _∙_}
 use mathlib.Core.Logic.{_≢_}
 use mathlib.Core.Bool.{Bool, true, false, cond}
-use mathlib.Core.List.{List, [], _∷_, _++_}
+use mathlib.Core.List.{List, [], _∷_}
 use Prim.Native.Nat.{ℕ, zero, suc, _+_, _≤_, _<_}
 use native.Mathlib.Omega.{arith}
 use native.Mathlib.Decide.{ℕ-discrete}
-use lib.Dec.{ltb, eqb}
+use lib.Dec.{ltb}
 use lib.IntN.{ℤ, pos, natAbs, _+ℤ_, _*ℤ_, +ℤ-idr, +ℤ-assoc}
 use lib.ListN.{length, length-set}
 use borrow.Author.Tests.{ltb-true, ltb-false, lt-ltb, le-ltb, eq-eqb, ne-eqb}
 use Rattle.whole.specs.Counting.{sum, total, figureAt}
-use Rattle.rules.specs.Sizes.{isYen, mostGross}
+use Rattle.rules.specs.Sizes.{isYen}
 use Rattle.rules.specs.Product.{differenceOf, rateOf}
 use Rattle.rules.specs.ProductLaws.{Fair, marginAt, lotMargin}
 use Rattle.places.specs.declared.Shape.{Shape}
 use Rattle.places.specs.Act.{mostProducts}
-use Rattle.places.specs.Place.{Place, head, prod, acct, held, Has, View, Layout, Put, _≔_, get, put, puts, each, dues, firstDue, wordsOf, productKind, floorMark, principal, quote, price, phase, margin, due, lots, book}
+use Rattle.places.specs.Place.{Place, head, prod, acct, held, Has, View, Layout, Put, _≔_, get, put, puts, each, dues, firstDue, wordsOf, productKind, quote, price, phase, margin, due, lots, book}
 use Rattle.places.specs.PlaceLaws.{Each, each-append, each-each, get-put-same, get-put-other, get-puts, length-puts, words-same}
-use Rattle.places.specs.Passes.{Agree, Off, unseen, Leaves, Elsewhere, leaves-put, leaves-later, leaves-after, leaves-each, turns, length-turns}
+use Rattle.places.specs.Passes.{Agree, Off, unseen, Elsewhere, leaves-put, leaves-later, leaves-after, leaves-each, turns, length-turns}
 use Rattle.daily.specs.DailyFigures.{difference, addedTo, nextDue, newDue, charge, newMargin, newBook}
 use Rattle.daily.specs.Ranges.{Named, Row, Rates, EveryDueIn, Ready, fair, part-in, charges-in, next-in}
 use Rattle.daily.specs.Once.{singleOf, charge-once}
 use Rattle.closing.specs.Close.{closePuts}
 use Rattle.closing.specs.Written.{accountSees}
-use Rattle.closing.specs.Walk.{movePuts, beginPuts, positionPuts, productPuts, productWalked, walked}
+use Rattle.closing.specs.Walk.{movePuts, startPuts, positionPuts, productPuts, productWalked, walked}
 use Rattle.closing.specs.After.{closeKeeps, After, after, after-same}
 
 -- ---- three words of the account a, put at once: a due, the margin, a book
@@ -203,32 +203,32 @@ module _ (prices rates8 rates104 lags : List ℤ) (s : Shape) (g : View) (x : �
           ap₂ (λ y m. y +ℤ pos m) (z .margin-is a ha ∙ ap (λ m. pos (total m (charge prices rates8 rates104 g a))) was-j)
           (ap₂ marginAt lots-same single-same ∙ sym (charge-once prices rates8 rates104 g a j))
 
-    stage-row : (a : ℕ) → a ≤ s .n → Stage (upTo a) j (get L s (turns L s F a X))
-    stage-row zero h = stage-as (λ b. j) (upTo 0) j (get L s X) (λ b k. sym (rw (le-ltb b 0 (omega arith)))) t
-    stage-row (suc a) h =
-        let Z = turns L s F a X in let z = stage-row a (omega arith) in let ha : a < s .n = omega arith in
+    stage-column : (a : ℕ) → a ≤ s .n → Stage (upTo a) j (get L s (turns L s F a X))
+    stage-column zero h = stage-as (λ b. j) (upTo 0) j (get L s X) (λ b k. sym (rw (le-ltb b 0 (omega arith)))) t
+    stage-column (suc a) h =
+        let Z = turns L s F a X in let z = stage-column a (omega arith) in let ha : a < s .n = omega arith in
         stage-turn L (upTo a) (upTo (suc a)) j a j Z (length-turns L s F X a ∙ l) z ha hj (was-j a ha Z z) (rw (lt-ltb a (suc a) (omega arith))) (others-same a) D hd refl
         (get L s Z (due a D) +ℤ differenceOf (get L s X (productKind j)) (get L s Z (lots a j)) (get L s Z (book a j)) (figureAt prices j) (figureAt prices (natAbs (get L s X (quote j)))))
         (get L s Z (margin a) +ℤ pos (marginAt (get L s Z (lots a j)) (singleOf prices rates8 rates104 (get L s X) j)))
         (get L s Z (lots a j) *ℤ figureAt prices j)
         (due-more a ha Z z) (margin-more a ha Z z) (ap (λ y. y *ℤ figureAt prices j) (lots-same a ha Z z))
 
-    abbrev rowed : List ℤ
-    rowed = turns L s F (s .n) X
+    abbrev columned : List ℤ
+    columned = turns L s F (s .n) X
 
-    all-done : Stage (λ b. suc j) j (get L s rowed)
-    all-done = stage-as (upTo (s .n)) (λ b. suc j) j (get L s rowed) (λ b h. rw (lt-ltb b (s .n) h)) (stage-row (s .n) (omega arith))
+    all-done : Stage (λ b. suc j) j (get L s columned)
+    all-done = stage-as (upTo (s .n)) (λ b. suc j) j (get L s columned) (λ b h. rw (lt-ltb b (s .n) h)) (stage-column (s .n) (omega arith))
 
-    rowed-long : length rowed ≡ wordsOf s
-    rowed-long = length-turns L s F X (s .n) ∙ l
+    column-long : length columned ≡ wordsOf s
+    column-long = length-turns L s F X (s .n) ∙ l
 
-    priced : (q : Place) → Has s q → q ≢ price j → get L s (put L s rowed (price j) (figureAt prices j)) q ≡ get L s rowed q
-    priced q hq ne = get-put-other L s rowed (price j) q (figureAt prices j) (hj, omega arith) hq ne
+    priced : (q : Place) → Has s q → q ≢ price j → get L s (put L s columned (price j) (figureAt prices j)) q ≡ get L s columned q
+    priced q hq ne = get-put-other L s columned (price j) q (figureAt prices j) (hj, omega arith) hq ne
 
-    price-at : (i : ℕ) → i < suc j → i < s .p → Dec (i ≡ j) → get L s (put L s rowed (price j) (figureAt prices j)) (price i) ≡ figureAt prices i
+    price-at : (i : ℕ) → i < suc j → i < s .p → Dec (i ≡ j) → get L s (put L s columned (price j) (figureAt prices j)) (price i) ≡ figureAt prices i
     price-at i h m (yes q) =
-        subst (λ k. get L s (put L s rowed (price j) (figureAt prices j)) (price k) ≡ figureAt prices k) (sym q)
-        (get-put-same L s rowed (price j) (figureAt prices j) rowed-long (hj, omega arith))
+        subst (λ k. get L s (put L s columned (price j) (figureAt prices j)) (price k) ≡ figureAt prices k) (sym q)
+        (get-put-same L s columned (price j) (figureAt prices j) column-long (hj, omega arith))
     price-at i h m (no q) =
         let k : i < j = native.Mathlib.Nat.lt-of-not-le (λ y. q (omega arith)) in
         priced (price i) (m, omega arith) (λ e. let y : i ≡ j = cc in q y) ∙ all-done .price-new i k m
@@ -236,7 +236,7 @@ module _ (prices rates8 rates104 lags : List ℤ) (s : Shape) (g : View) (x : �
     pub stage-product : Stage (λ b. suc j) (suc j) (get L s (productWalked L s prices rates8 rates104 lags j X))
     stage-product =
         record {
-          kept = λ q hq c. unseen L s closeKeeps ((price j ≔ figureAt prices j) ∷ []) (((hj, omega arith), refl), tt) rowed q hq c ∙ all-done .kept q hq c;
+          kept = λ q hq c. unseen L s closeKeeps ((price j ≔ figureAt prices j) ∷ []) (((hj, omega arith), refl), tt) columned q hq c ∙ all-done .kept q hq c;
           price-new = λ i h m. price-at i h m (ℕ-discrete i j);
           margin-is = λ b h. priced (margin b) (h, omega arith) (λ e. let y : _≡_ {A = ℕ} 0 1 = cc in omega arith) ∙ all-done .margin-is b h;
           due-is = λ b d h m. priced (due b d) (h, omega arith) (λ e. let y : _≡_ {A = ℕ} 0 1 = cc in omega arith) ∙ all-done .due-is b d h m;
@@ -269,14 +269,14 @@ pub record Column (prices lags : List ℤ) (s : Shape) (g : View) (j : ℕ) : Ty
   pub fair : (a : ℕ) → a < s .n → Fair (g (productKind j)) (g (lots a j)) (g (book a j)) (figureAt prices j) (figureAt prices (natAbs (g (quote j))))
   pub roomy : (a : ℕ) → a < s .n → Roomy g a (natAbs (figureAt lags j))
 
--- the accounts have begun
-pub record Begun (prices : List ℤ) (s : Shape) (g : View) : Type 0 where
+-- the accounts have started: dues moved down, margins 0
+pub record Started (prices : List ℤ) (s : Shape) (g : View) : Type 0 where
   pub named : Named prices s g
   pub row : (a : ℕ) → a < s .n → Row prices s g a
   pub dues-in : EveryDueIn s g
   pub margin-none : (a : ℕ) → a < s .n → g (margin a) ≡ pos 0
 
-module _ (prices rates8 rates104 lags : List ℤ) (s : Shape) (g : View) (few : s .p ≤ mostProducts) (r : Begun prices s g) (rates : Rates (s .p) rates8 rates104) where
+module _ (prices rates8 rates104 lags : List ℤ) (s : Shape) (g : View) (few : s .p ≤ mostProducts) (r : Started prices s g) (rates : Rates (s .p) rates8 rates104) where
   pub stage-none : Stage prices rates8 rates104 lags s g (λ b d. g (due b d)) (λ b. 0) 0 g
   stage-none =
       record {
@@ -320,40 +320,40 @@ turn-off s kind price quoted single d j hd hj a b h ne g =
     let n = ne-eqb a b ne in
     (((h, omega arith), n), (((h, omega arith), n), (((h, hj, omega arith), n), tt)))
 
--- ---- the accounts begin
+-- ---- the accounts start
 
 module _ (L : Layout) (prices rates8 rates104 lags : List ℤ) (s : Shape) (W : List ℤ) (l : length W ≡ wordsOf s) where
   abbrev g₀ : View
   g₀ = get L s W
 
-  abbrev begun : List Put
-  begun = each (s .n) (beginPuts g₀)
+  abbrev started : List Put
+  started = each (s .n) (startPuts g₀)
 
-  -- the places that an account's beginning puts
-  begin-at : (P : Place → Type 0) (a : ℕ) → P (margin a) → ((d : ℕ) → d < dues → P (due a d)) → Each P (beginPuts g₀ a)
-  begin-at P a m x = each-append P (each dues (movePuts g₀ a)) ((margin a ≔ pos 0) ∷ []) (each-each P dues (movePuts g₀ a) (λ d h. (x d h, tt))) (m, tt)
+  -- the places that an account's start puts
+  start-at : (P : Place → Type 0) (a : ℕ) → P (margin a) → ((d : ℕ) → d < dues → P (due a d)) → Each P (startPuts g₀ a)
+  start-at P a m x = each-append P (each dues (movePuts g₀ a)) ((margin a ≔ pos 0) ∷ []) (each-each P dues (movePuts g₀ a) (λ d h. (x d h, tt))) (m, tt)
 
-  begun-off : Off s closeKeeps begun
-  begun-off =
+  started-off : Off s closeKeeps started
+  started-off =
       let P : Place → Type 0 = λ q. Has s q × (closeKeeps q ≡ false) in
-      each-each P (s .n) (beginPuts g₀) (λ a h. begin-at P a ((h, omega arith), refl) (λ d k. ((h, omega arith), le-ltb (firstDue + d) 4 (omega arith))))
+      each-each P (s .n) (startPuts g₀) (λ a h. start-at P a ((h, omega arith), refl) (λ d k. ((h, omega arith), le-ltb (firstDue + d) 4 (omega arith))))
 
-  -- another account's beginning is elsewhere
-  other-account : (a f : ℕ) (hq : Has s (acct a f)) (v : ℤ) (b : ℕ) → b < s .n → a < b → Elsewhere L s (acct a f) hq v (beginPuts g₀ b)
+  -- another account's start is elsewhere
+  other-account : (a f : ℕ) (hq : Has s (acct a f)) (v : ℤ) (b : ℕ) → b < s .n → a < b → Elsewhere L s (acct a f) hq v (startPuts g₀ b)
   other-account a f hq v b h k =
-      begin-at (λ r. Has s r × (acct a f ≢ r)) b ((h, omega arith), λ e. let y : a ≡ b = cc in omega arith) (λ d m. ((h, omega arith), λ e. let y : a ≡ b = cc in omega arith))
+      start-at (λ r. Has s r × (acct a f ≢ r)) b ((h, omega arith), λ e. let y : a ≡ b = cc in omega arith) (λ d m. ((h, omega arith), λ e. let y : a ≡ b = cc in omega arith))
 
-  begun-margin : (a : ℕ) → a < s .n → get L s (puts L s W begun) (margin a) ≡ pos 0
-  begun-margin a h =
+  started-margin : (a : ℕ) → a < s .n → get L s (puts L s W started) (margin a) ≡ pos 0
+  started-margin a h =
       let q = margin a in let hq : Has s (margin a) = (h, omega arith) in
-      leaves-each L s q hq (pos 0) (s .n) (beginPuts g₀) a h
+      leaves-each L s q hq (pos 0) (s .n) (startPuts g₀) a h
       (leaves-after L s q hq (pos 0) (each dues (movePuts g₀ a)) ((margin a ≔ pos 0) ∷ []) (leaves-put L s q hq (pos 0)))
       (other-account a 4 hq (pos 0)) W l
 
-  begun-due : (a d : ℕ) → a < s .n → d < dues → get L s (puts L s W begun) (due a d) ≡ nextDue g₀ a d
-  begun-due a d h k =
+  started-due : (a d : ℕ) → a < s .n → d < dues → get L s (puts L s W started) (due a d) ≡ nextDue g₀ a d
+  started-due a d h k =
       let q = due a d in let hq : Has s (due a d) = (h, omega arith) in let v = nextDue g₀ a d in
-      leaves-each L s q hq v (s .n) (beginPuts g₀) a h
+      leaves-each L s q hq v (s .n) (startPuts g₀) a h
       (leaves-later L s q hq v (each dues (movePuts g₀ a)) ((margin a ≔ pos 0) ∷ [])
       (leaves-each L s q hq v dues (movePuts g₀ a) d k (leaves-put L s q hq v) (λ m b c. (((h, omega arith), λ e. let y : firstDue + d ≡ firstDue + m = cc in omega arith), tt)))
       (((h, omega arith), λ e. let y : firstDue + d ≡ 4 = cc in omega arith), tt))
@@ -366,27 +366,27 @@ module _ (L : Layout) (prices rates8 rates104 lags : List ℤ) (s : Shape) (W : 
   notRecords (acct a f) = false
   notRecords (held a j f) = true
 
-  begun-else : Agree s notRecords (get L s (puts L s W begun)) g₀
-  begun-else =
+  started-else : Agree s notRecords (get L s (puts L s W started)) g₀
+  started-else =
       let P : Place → Type 0 = λ q. Has s q × (notRecords q ≡ false) in
-      unseen L s notRecords begun (each-each P (s .n) (beginPuts g₀) (λ a h. begin-at P a ((h, omega arith), refl) (λ d k. ((h, omega arith), refl)))) W
+      unseen L s notRecords started (each-each P (s .n) (startPuts g₀) (λ a h. start-at P a ((h, omega arith), refl) (λ d k. ((h, omega arith), refl)))) W
 
-  pub stage-begun : Stage prices rates8 rates104 lags s g₀ (nextDue g₀) (λ b. 0) 0 (get L s (puts L s W begun))
-  stage-begun =
+  pub stage-started : Stage prices rates8 rates104 lags s g₀ (nextDue g₀) (λ b. 0) 0 (get L s (puts L s W started))
+  stage-started =
       record {
-        kept = unseen L s closeKeeps begun begun-off W;
+        kept = unseen L s closeKeeps started started-off W;
         price-new = λ i h. absurd (omega arith);
-        margin-is = begun-margin;
-        due-is = λ b d h k. begun-due b d h k ∙ sym (+ℤ-idr (nextDue g₀ b d));
+        margin-is = started-margin;
+        due-is = λ b d h k. started-due b d h k ∙ sym (+ℤ-idr (nextDue g₀ b d));
         book-new = λ b i h m o. absurd (omega arith);
-        book-old = λ b i h m o. begun-else (book b i) (h, m, omega arith) refl;
+        book-old = λ b i h m o. started-else (book b i) (h, m, omega arith) refl;
       }
 
   -- what the walk relies on
-  pub begun-ready : Ready prices s g₀ → Begun prices s (get L s (puts L s W begun))
-  begun-ready r =
-      let g′ = get L s (puts L s W begun) in
-      let word : (i f : ℕ) → i < s .p → f < 5 → g′ (prod i f) ≡ g₀ (prod i f) = λ i f h k. begun-else (prod i f) (h, omega arith) refl in
+  pub started-ready : Ready prices s g₀ → Started prices s (get L s (puts L s W started))
+  started-ready r =
+      let g′ = get L s (puts L s W started) in
+      let word : (i f : ℕ) → i < s .p → f < 5 → g′ (prod i f) ≡ g₀ (prod i f) = λ i f h k. started-else (prod i f) (h, omega arith) refl in
       record {
         named = record {
           priced = r .named .priced;
@@ -394,25 +394,25 @@ module _ (L : Layout) (prices rates8 rates104 lags : List ℤ) (s : Shape) (W : 
           yen-in = λ i h. rw (word i 0 h (omega arith), word i 3 h (omega arith)) (r .named .yen-in i h);
           yen-price = λ i h. rw (word i 0 h (omega arith), word i 3 h (omega arith)) (r .named .yen-price i h);
         };
-        row = λ a h. record { at = λ j k. rw (word j 0 k (omega arith), begun-else (lots a j) (h, k, omega arith) refl, begun-else (book a j) (h, k, omega arith) refl, word j 4 k (omega arith)) (r .row a h .at j k) };
-        dues-in = record { at = λ a h. record { at = λ d k. rw (begun-due a d h k) (next-in g₀ a d (r .dues-in .at a h)) } };
-        margin-none = begun-margin;
+        row = λ a h. record { at = λ j k. rw (word j 0 k (omega arith), started-else (lots a j) (h, k, omega arith) refl, started-else (book a j) (h, k, omega arith) refl, word j 4 k (omega arith)) (r .row a h .at j k) };
+        dues-in = record { at = λ a h. record { at = λ d k. rw (started-due a d h k) (next-in g₀ a d (r .dues-in .at a h)) } };
+        margin-none = started-margin;
       }
 
   -- ---- the end
 
   module _ (names : (j : ℕ) → j < s .p → natAbs (figureAt lags j) < dues) where
     abbrev X : List ℤ
-    X = walked L s prices rates8 rates104 lags (s .p) (puts L s W begun)
+    X = walked L s prices rates8 rates104 lags (s .p) (puts L s W started)
 
-    begun-long : length (puts L s W begun) ≡ wordsOf s
-    begun-long = length-puts L s begun W ∙ l
+    started-long : length (puts L s W started) ≡ wordsOf s
+    started-long = length-puts L s started W ∙ l
 
     X-long : length X ≡ wordsOf s
-    X-long = length-walked prices rates8 rates104 lags s g₀ (nextDue g₀) L names (puts L s W begun) begun-long stage-begun (s .p)
+    X-long = length-walked prices rates8 rates104 lags s g₀ (nextDue g₀) L names (puts L s W started) started-long stage-started (s .p)
 
     t : Stage prices rates8 rates104 lags s g₀ (nextDue g₀) (λ b. s .p) (s .p) (get L s X)
-    t = stage-walked prices rates8 rates104 lags s g₀ (nextDue g₀) L names (puts L s W begun) begun-long stage-begun (s .p) (omega arith)
+    t = stage-walked prices rates8 rates104 lags s g₀ (nextDue g₀) L names (puts L s W started) started-long stage-started (s .p) (omega arith)
 
     abbrev last : List ℤ
     last = put L s X phase (pos 0)

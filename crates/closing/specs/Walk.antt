@@ -1,4 +1,4 @@
--- The words of a close as they are made: dues moved up and margins at 0 in every account; then product by product, and in a product account by account, a
+-- The words of a close as they are made: dues moved down and margins at 0 in every account; then product by product, and in a product account by account, a
 -- position's due, margin and book, each from the words as they stand; then the product's price. `Stages` shows that this is the close of `Close`.
 use mathlib.Core.List.{List, [], _∷_, _++_}
 use Prim.Native.Nat.{ℕ, zero, suc}
@@ -12,13 +12,13 @@ use Rattle.places.specs.Passes.{turns}
 use Rattle.daily.specs.DailyFigures.{nextDue}
 use Rattle.daily.specs.Once.{singleOf}
 
--- ---- an account begins
+-- ---- an account starts
 
 abbrev pub movePuts : View → ℕ → ℕ → List Put
 movePuts g a d = (due a d ≔ nextDue g a d) ∷ []
 
-abbrev pub beginPuts : View → ℕ → List Put
-beginPuts g a = each dues (movePuts g a) ++ ((margin a ≔ pos 0) ∷ [])
+abbrev pub startPuts : View → ℕ → List Put
+startPuts g a = each dues (movePuts g a) ++ ((margin a ≔ pos 0) ∷ [])
 
 -- ---- the account a's position in the product j, by what belongs to the product: its kind, its new price and its quote's, the margin of a lot, and the due
 -- that its lag names

@@ -1,10 +1,9 @@
 // The close of a day (01, "The day", Close): its tests, the search for an account whose gross would pass its range, the writing pass. Nothing is written
 // before all refusals are past. The writing pass goes product by product and makes each position's due, margin and book at once, where they stand in the
-// ledger: what belongs to a product is worked out once, each difference once, and no room is needed beside the ledger but the dues of one account.
+// ledger: in it what belongs to a product is worked out once, and each difference once. No room is needed beside the ledger but for the dues of one account.
 ghost use mathlib.Core.Path.{_≡_};
 ghost use mathlib.Core.Bool.{true};
 ghost use Prim.Native.Nat.{_+_, _<_, _≤_};
-ghost use lib.IntN.{natAbs};
 ghost use lib.ListN.{length};
 ghost use Rattle.whole.specs.Number.{is};
 ghost use Rattle.whole.specs.Counting.{all, least};
@@ -19,14 +18,14 @@ ghost use Rattle.daily.specs.DailyFigures.{figureOk, overGross};
 ghost use Rattle.daily.specs.Ranges.{Lengths, Rates, Lags, Named, Ready};
 ghost use Rattle.closing.specs.Close as C;
 ghost use Rattle.closing.specs.Walk as W;
-ghost use Rattle.closing.specs.Stages.{Roomy, Column, Begun};
+ghost use Rattle.closing.specs.Stages.{Roomy, Column, Started};
 use places::Shape;
 use rules::Reply;
 
 // ---- the search behind 12
 
-// An account with no more gross than this, when its dues have moved up, cannot pass its range, whatever its differences.
-const FAR: u64 = rules::sizes::MOST_GROSS - daily::MOST_ADDED;
+// An account with no more gross than this, when its dues have moved down, cannot pass its range, whatever its differences.
+const FAR_GROSS: u64 = rules::sizes::MOST_GROSS - daily::MOST_ADDED;
 
 // The lowest account whose gross would pass its range, or n: account by account and due by due, on finished dues, left at the first excess. The dues of an
 // account that is far from its range are not worked out.
@@ -40,7 +39,7 @@ fn first_over(words: &[i64], s: Shape, prices: &[i64], lags: &[i64], new: &mut [
     let n = s.n;
     let mut a = 0;
     'search: while a < n {
-        if daily::moved_gross(words, s, a) <= FAR {
+        if daily::moved_gross(words, s, a) <= FAR_GROSS {
             a += 1;
             continue;
         }
@@ -61,11 +60,11 @@ fn first_over(words: &[i64], s: Shape, prices: &[i64], lags: &[i64], new: &mut [
 
 // ---- the writing pass
 
-// The account a's dues move up, and its margin begins at 0: the products' walk adds to both.
-fn begin_account(words: &mut [i64], s: Shape, a: usize)
+// The account a's dues move down by one, from the first on, so that each is read before it is overwritten; its margin is 0. The products' walk adds to both.
+fn start_account(words: &mut [i64], s: Shape, a: usize)
     requires { ⌜ Sized s (now words) ⌝ }
     requires { ⌜ a < s .n ⌝ }
-    ensures { λ _. ⌜ now (words .exit) ≡ puts byAccount s (now (words .entry)) (W.beginPuts (get byAccount s (now (words .entry))) a) ⌝ }
+    ensures { λ _. ⌜ now (words .exit) ≡ puts byAccount s (now (words .entry)) (W.startPuts (get byAccount s (now (words .entry))) a) ⌝ }
 {
     let mut d = 0;
     while d < places::DUES {
@@ -76,14 +75,14 @@ fn begin_account(words: &mut [i64], s: Shape, a: usize)
     places::put_acct(words, s, a, places::MARGIN, 0);
 }
 
-fn begin_accounts(words: &mut [i64], s: Shape)
+fn start_accounts(words: &mut [i64], s: Shape)
     requires { ⌜ Sized s (now words) ⌝ }
-    ensures { λ _. ⌜ now (words .exit) ≡ puts byAccount s (now (words .entry)) (each (s .n) (W.beginPuts (get byAccount s (now (words .entry))))) ⌝ }
+    ensures { λ _. ⌜ now (words .exit) ≡ puts byAccount s (now (words .entry)) (each (s .n) (W.startPuts (get byAccount s (now (words .entry))))) ⌝ }
 {
     let n = s.n;
     let mut a = 0;
     while a < n {
-        begin_account(words, s, a);
+        start_account(words, s, a);
         a += 1;
     }
 }
@@ -111,9 +110,9 @@ fn close_position(
     let book = places::held_word(words, s, a, j, places::BOOK);
     let due = places::acct_word(words, s, a, places::FIRST_DUE + d);
     let margin = places::acct_word(words, s, a, places::MARGIN);
-    let more = rules::products::difference_of(kind, lots, book, price, quoted);
+    let difference = rules::products::difference_of(kind, lots, book, price, quoted);
     let charge = rules::products::margin_at(lots, single) as i64;
-    places::put_acct(words, s, a, places::FIRST_DUE + d, due + more);
+    places::put_acct(words, s, a, places::FIRST_DUE + d, due + difference);
     places::put_acct(words, s, a, places::MARGIN, margin + charge);
     places::put_held(words, s, a, j, places::BOOK, lots * price);
 }
@@ -159,7 +158,7 @@ fn close_products(
     lags: &[i64],
 )
     requires { ⌜ Sized s (now words) ⌝ }
-    requires { ⌜ Begun (now prices) s (get byAccount s (now words)) ⌝ }
+    requires { ⌜ Started (now prices) s (get byAccount s (now words)) ⌝ }
     requires { ⌜ Rates (s .p) (now rates8) (now rates104) ⌝ }
     requires { ⌜ Lags (s .p) (now lags) ⌝ }
     ensures { λ _. ⌜ now (words .exit) ≡ W.walked byAccount s (now (prices .entry)) (now (rates8 .entry)) (now (rates104 .entry)) (now (lags .entry)) (s .p) (now (words .entry)) ⌝ }
@@ -186,7 +185,7 @@ fn close_words(
     requires { ⌜ Lags (s .p) (now lags) ⌝ }
     ensures { λ _. ⌜ now (words .exit) ≡ puts byAccount s (now (words .entry)) (C.closePuts (now (prices .entry)) (now (rates8 .entry)) (now (rates104 .entry)) (now (lags .entry)) s (get byAccount s (now (words .entry)))) ⌝ }
 {
-    begin_accounts(words, s);
+    start_accounts(words, s);
     close_products(words, s, prices, rates8, rates104, lags);
     places::put_head(words, s, places::PHASE, 0);
 }

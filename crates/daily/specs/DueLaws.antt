@@ -4,7 +4,7 @@ use mathlib.Core.Path.{_≡_, refl, sym, ap, subst, _∙_}
 use mathlib.Core.Logic.{_≢_}
 use mathlib.Core.Bool.{Bool, true, false, cond}
 use mathlib.Core.List.{List}
-use Prim.Native.Nat.{ℕ, zero, suc, _+_, _*_, _≤_, _<_, zero-le}
+use Prim.Native.Nat.{ℕ, zero, suc, _+_, _*_, _≤_, _<_}
 use native.Mathlib.Nat.{mul-le-mul-right, suc-mul}
 use native.Mathlib.Numerals.{add-one}
 use native.Mathlib.Omega.{arith}
@@ -59,7 +59,7 @@ module _ (prices lags : List ℤ) (g : View) (a j : ℕ) where
 
 -- ---- how far a close can bring the gross
 
--- an account's gross when its dues have moved up and nothing has been added
+-- an account's gross when its dues have moved down and nothing has been added
 abbrev pub movedGross : View → ℕ → ℕ
 movedGross g a = natAbs (g (cash a)) + total dues (λ d. natAbs (nextDue g a d))
 

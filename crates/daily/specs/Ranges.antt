@@ -80,7 +80,7 @@ lengths-of prices rates8 rates104 lags p e =
       lags-long = eqb-true (length lags) p (h .1);
     }
 
--- the most that a close adds to an account's dues, in size: so much for each of 16 products
+-- no close adds more than this, in size, to an account's dues together: 3 × 10^13 for each of 16 products
 abbrev pub mostAdded : ℕ
 mostAdded = 480000000000000
 
@@ -210,16 +210,13 @@ next-in g a d h = go (ltb (d + 1) dues) refl
     go true e = h .at (d + 1) (ltb-true (d + 1) dues e)
     go false e = omega arith
 
--- each account's cash, and all lots
+-- each account's cash
 pub record CashIn (s : Shape) (g : View) : Type 0 where
   pub at : (a : ℕ) → a < s .n → natAbs (g (cash a)) ≤ mostGross
 
 -- each account's dues
 pub record EveryDueIn (s : Shape) (g : View) : Type 0 where
   pub at : (a : ℕ) → a < s .n → EachDueIn g a
-
-pub record LotsIn (s : Shape) (g : View) : Type 0 where
-  pub at : (a j : ℕ) → a < s .n → j < s .p → natAbs (g (lots a j)) ≤ mostLots
 
 -- of the products, and of each account
 pub record Ready (prices : List ℤ) (s : Shape) (g : View) : Type 0 where
@@ -236,6 +233,3 @@ ready prices rates8 rates104 lags s g ok fig e =
       dues-in = record { at = λ a h. dues-of g a (ok .account a h) };
       cash-in = record { at = λ a h. account-facts (accountAt g a) (ok .account a h) .cash-in };
     }
-
-pub lots-of : (prices : List ℤ) (s : Shape) (g : View) → Ready prices s g → LotsIn s g
-lots-of prices s g r = record { at = λ a j h k. r .row a h .at j k .lots-in }

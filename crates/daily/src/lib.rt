@@ -22,7 +22,7 @@ use rules::Product;
 // The last due that a lag can name.
 const LAST_LAG: i64 = places::DUES as i64 - 1;
 
-// The most that a close adds to an account's dues, in size: 3 × 10^13 for each of 16 products.
+// No close adds more than this, in size, to an account's dues together: 3 × 10^13 for each of 16 products.
 pub const MOST_ADDED: u64 = 480000000000000;
 
 // ---- the four lists of a close
@@ -147,8 +147,8 @@ fn difference(words: &[i64], s: Shape, a: usize, j: usize, prices: &[i64]) -> i6
     rules::products::difference_of(kind, lots, book, prices[j], quoted)
 }
 
-// The dues move up.
-fn move_up(words: &[i64], s: Shape, a: usize, new: &mut [i64])
+// The dues move down by one.
+fn move_down(words: &[i64], s: Shape, a: usize, new: &mut [i64])
     requires { ⌜ Sized s (now words) ⌝ }
     requires { ⌜ (a < s .n) × (length (now new) ≡ dues) ⌝ }
     ensures { λ _. ⌜ now (new .exit) ≡ listed dues (F.nextDue (get byAccount s (now (words .entry))) a) ⌝ }
@@ -188,11 +188,11 @@ pub fn new_dues(words: &[i64], s: Shape, a: usize, prices: &[i64], lags: &[i64],
     requires { ⌜ (a < s .n) × (length (now new) ≡ dues) ⌝ }
     ensures { λ _. ⌜ now (new .exit) ≡ listed dues (F.newDue (now (prices .entry)) (now (lags .entry)) s (get byAccount s (now (words .entry))) a) ⌝ }
 {
-    move_up(words, s, a, new);
+    move_down(words, s, a, new);
     add_differences(words, s, a, prices, lags, new);
 }
 
-// The gross of an account whose dues have moved up, before any difference is added.
+// The gross of an account whose dues have moved down, before any difference is added.
 pub fn moved_gross(words: &[i64], s: Shape, a: usize) -> u64
     requires { ⌜ Sized s (now words) ⌝ }
     requires { ⌜ EachDueIn (get byAccount s (now words)) a ⌝ }

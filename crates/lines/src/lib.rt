@@ -294,7 +294,7 @@ pub fn put_digits(out: &mut [u8], at: usize, n: u64) -> usize
     e + 1
 }
 
-// The same. Most numbers of a sheet have one digit: it is written without a call.
+// The same. Many numbers of a sheet have one digit: it is written without the recursion.
 fn put_natural(out: &mut [u8], at: usize, n: u64) -> usize
     requires { ⌜ at + 20 ≤ length (now out) ⌝ }
     ensures { λ r. ⌜ (r ≡ at + length (natural n)) × (now (out .exit) ≡ sets (now (out .entry)) at (natural n)) ⌝ }

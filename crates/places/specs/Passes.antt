@@ -1,6 +1,7 @@
 -- A pass over accounts, products or dues as one list of puts, every word of it computed from the view at the start.
 -- The code computes each word from the words as they stand. The two agree where what is still to be read has not been written:
 -- `Sees` says which places a value depends on, `Off` that puts stand elsewhere, and `then-puts`, `pass-more` join a part to what was done.
+-- `turns` is another thing: parts that are each made from the words as they stand.
 use mathlib.Core.Path.{_≡_, refl, sym, ap, ap₂, subst, _∙_}
 use mathlib.Core.Logic.{_≢_, inl, inr}
 use mathlib.Core.List.{List, [], _∷_, _++_}

@@ -36,7 +36,7 @@ fn negative_of(mark: i64, difference: i64) -> u64
     }
 }
 
-// Writes every member's weight; their sum, so that what was just written need not be read back for it.
+// Writes every member's weight and answers their sum, so that they need not be read back for it.
 fn weigh(marks: &[i64], figures: &[i64], weights: &mut [u64]) -> u64
     requires { ⌜ length (now marks) ≡ length (now figures) ⌝ ∗ ⌜ length (now weights) ≡ length (now figures) ⌝ }
     requires { ⌜ length (now figures) ≤ most-members ⌝ ∗ ⌜ Each L.most-figure (now figures) ⌝ }

@@ -3,8 +3,6 @@ ghost use mathlib.Core.Path.{_≡_};
 ghost use Prim.Native.Nat.{_*_, _≤_, _<_, _^_};
 ghost use lib.IntN.{pos, natAbs, _+ℤ_, _-ℤ_};
 ghost use lib.Signed.{_≤ℤ_};
-ghost use mir.Syntax.{w64};
-ghost use mir.Val.{ofZ};
 ghost use Rattle.whole.specs.Number as N;
 
 // Whether x lies between lo and hi.
@@ -29,28 +27,13 @@ pub fn nat_abs(x: i64) -> u64
     if x < 0 { up(0 - (x + 1)) + 1 } else { up(x) }
 }
 
-// 2^63: the least word that stands for a number below 0.
-const HALF: u64 = 9223372036854775808;
-
-// The word that holds x: x itself, or 2^64 more where x is below 0, of which no cast is defined. Both arms leave the bits as they are, so the compiled
-// code has no test here.
-fn word_of(x: i64) -> u64
-    ensures { λ r. ⌜ r ≡ ofZ w64 x ⌝ }
-{
-    if x < 0 {
-        up(x - i64::MIN) + HALF
-    } else {
-        up(x)
-    }
-}
-
-// Whether x is at most `most` in size, by one comparison: x moved up by `most`, as a word that goes round, is at most twice `most` exactly where x is in
-// the range. A number above it is moved past twice `most`, and one below it does not get round.
+// Whether x is at most `most` in size: two comparisons, and no size is worked out.
 pub fn within(x: i64, most: u64) -> bool
     requires { ⌜ most < 2 ^ 63 ⌝ }
     ensures { λ r. ⌜ r ≡ N.within most x ⌝ }
 {
-    std::num::wrapping_add_u64(word_of(x), most) <= most + most
+    let top = most as i64;
+    between(x, 0 - top, top)
 }
 
 // Whether x is the number of one of n things, counted from 0.

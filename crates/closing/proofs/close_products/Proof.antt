@@ -2,14 +2,14 @@
 -- Assumes nothing.
 use mathlib.Core.Path.{_≡_, refl, sym, ap, subst, _∙_}
 use mathlib.Core.List.{List}
-use Prim.Native.Nat.{ℕ, _-_, _≤_, _<_, zero-le}
+use Prim.Native.Nat.{_-_, _≤_, _<_, zero-le}
 use native.Mathlib.Numerals.{add-one}
 use native.Mathlib.Omega.{arith}
 use lib.IntN.{ℤ}
 use lib.ListN.{length}
 use Rattle.places.specs.declared.Shape.{Shape}
 use Rattle.places.specs.Place.{View, get, due}
-use Rattle.places.specs.PlaceLaws.{Sized, sized-as}
+use Rattle.places.specs.PlaceLaws.{sized-as}
 use Rattle.places.specs.ByAccount.{byAccount}
 use Rattle.closing.specs.Walk.{productWalked, walked}
 use Rattle.closing.specs.Stages.{Stage, stage-none, stage-walked, length-walked, named-then, column-then}

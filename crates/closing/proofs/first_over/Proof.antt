@@ -74,7 +74,7 @@ module _ (c : tie.After-new-dues Inv-loop μ-loop Inv-search μ-search) where
 cash-is : (c : tie.After-nat-abs Inv-loop μ-loop Inv-search μ-search) → let a = c .before .before .before .before .before .before .before .before in c .nat-abs .result ≡ natAbs (g (a .before) (cash (a .search .a)))
 cash-is c = let w = c .before .acct-word in c .nat-abs .ensures ∙ ap natAbs (came (w .result) (w .ok) (w .ensures))
 
--- the due-abs of a new due
+-- the size of a new due
 got : (c : tie.After-nat-abs2 Inv-loop μ-loop Inv-search μ-search) → let l = c .before .before .before in let a = searched (l .before .before .before .before) in
     (c .nat-abs2 .result ≡ sizes (a .before) (a .search .a) (l .loop .d)) × (sizes (a .before) (a .search .a) (l .loop .d) ≤ 1480000000000000)
 got c =

@@ -1,4 +1,4 @@
--- `moved_gross` meets its contract: the loop has the cash and the first d dues, moved up, in size. Assumes nothing.
+-- `moved_gross` meets its contract: the loop has the cash and the first d dues, moved down, in size. Assumes nothing.
 use mathlib.Core.Path.{_≡_, sym, ap, _∙_}
 use Prim.Native.Nat.{ℕ, _+_, _-_, _*_, _≤_, zero-le}
 use native.Mathlib.Nat.{add-zero}
@@ -32,7 +32,7 @@ g s = get byAccount (s .args .s) (s .args .words .now)
 cash-is : (c : tie.After-nat-abs Inv-loop μ-loop) → let s = c .before .before in c .nat-abs .result ≡ natAbs (g s (cash (s .args .a)))
 cash-is c = let w = c .before .acct-word in c .nat-abs .ensures ∙ ap natAbs (came (w .result) (w .ok) (w .ensures))
 
--- a due, moved up
+-- a due, moved down
 got : (c : tie.After-nat-abs2 Inv-loop μ-loop) → let l = c .before .before .before in let s = l .before .before .before in
     (c .nat-abs2 .result ≡ size (g s) (s .args .a) (l .loop .d)) × (size (g s) (s .args .a) (l .loop .d) ≤ mostGross)
 got c =

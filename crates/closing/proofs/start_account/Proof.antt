@@ -1,9 +1,8 @@
--- `begin_account` meets its contract: the first d dues have moved up, and the due after d is still as it was (`pass-more`); then the margin. Assumes nothing.
+-- `start_account` meets its contract: the first d dues have moved down, and the due after d is still as it was (`pass-more`); then the margin. Assumes nothing.
 use mathlib.Core.Path.{_≡_, refl, ap, _∙_}
 use mathlib.Core.Bool.{Bool, true, false, cond}
 use mathlib.Core.List.{List, [], _∷_}
 use Prim.Native.Nat.{ℕ, _+_, _-_, _≤_, _<_, zero-le}
-use native.Mathlib.Numerals.{add-one}
 use native.Mathlib.Omega.{arith}
 use lib.Dec.{ltb}
 use lib.IntN.{ℤ, pos}
@@ -14,10 +13,9 @@ use Rattle.places.specs.Place.{Place, head, prod, acct, held, Has, View, Put, _
 use Rattle.places.specs.PlaceLaws.{each-each}
 use Rattle.places.specs.ByAccount.{byAccount}
 use Rattle.places.specs.Passes.{Sees, Off, length-of, sized-of, more-puts, pass-more}
-use Rattle.daily.specs.DailyFigures.{nextDue}
-use Rattle.closing.specs.Walk.{movePuts, beginPuts}
-use Rattle.closing.proofs.begin_account.Statement.{statement}
-use Rattle.closing.proofs.begin_account.Tie as tie
+use Rattle.closing.specs.Walk.{movePuts, startPuts}
+use Rattle.closing.proofs.start_account.Statement.{statement}
+use Rattle.closing.proofs.start_account.Tie as tie
 
 abbrev Inv-loop : tie.InvT-loop
 Inv-loop words₀ s a d₀ words d = (d ≤ dues) × (words ≡ puts byAccount s words₀ (each d (movePuts (get byAccount s words₀) a)))
@@ -99,19 +97,19 @@ all-moved l e = rw e at (l .loop .inv .1)
 
 -- the words after the margin
 last-is : (c : tie.After-words2 Inv-loop μ-loop) → let l = c .before .before .before .before in let a = s l .args .a in
-    c .before .put-acct2 .last .0 ≡ puts byAccount (S l) (W l) (beginPuts (g l) a)
+    c .before .put-acct2 .last .0 ≡ puts byAccount (S l) (W l) (startPuts (g l) a)
 last-is c =
     let l = c .before .before .before .before in let a = s l .args .a in
     more-puts byAccount (S l) (W l) (l .loop .words) (each dues (movePuts (g l) a)) (all-moved l (omega arith)) (c .before .put-acct2 .last .0) ((margin a ≔ pos 0) ∷ []) (c .before .put-acct2 .ensures)
 
 same-length : tie.Need-same-length Inv-loop μ-loop
-same-length c = let l = c .before .before .before .before in length-of byAccount (S l) (W l) (c .before .put-acct2 .last .0) (beginPuts (g l) (s l .args .a)) (last-is c)
+same-length c = let l = c .before .before .before .before in length-of byAccount (S l) (W l) (c .before .put-acct2 .last .0) (startPuts (g l) (s l .args .a)) (last-is c)
 
 returns : tie.Need-returns Inv-loop μ-loop
 returns c = last-is c
 
-pub begin-account-spec : {M : Type 1} → statement M
-begin-account-spec =
+pub start-account-spec : {M : Type 1} → statement M
+start-account-spec =
     tie.close
     (tie.spec
     Inv-loop

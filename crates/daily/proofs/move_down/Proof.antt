@@ -1,4 +1,4 @@
--- `move_up` meets its contract: the first d words are the dues moved up. Assumes nothing.
+-- `move_down` meets its contract: the first d words are the dues moved down. Assumes nothing.
 use mathlib.Core.Path.{_≡_, sym, ap, _∙_}
 use mathlib.Core.List.{List}
 use Prim.Native.Nat.{ℕ, _-_, _≤_, zero-le}
@@ -11,15 +11,15 @@ use Rattle.places.specs.declared.Shape.{Shape}
 use Rattle.places.specs.Place.{dues, get}
 use Rattle.places.specs.ByAccount.{byAccount}
 use Rattle.daily.specs.DailyFigures.{nextDue}
-use Rattle.daily.proofs.move_up.Statement.{statement}
-use Rattle.daily.proofs.move_up.Tie as tie
+use Rattle.daily.proofs.move_down.Statement.{statement}
+use Rattle.daily.proofs.move_down.Tie as tie
 
--- the dues moved up
-abbrev up : List ℤ → Shape → ℕ → ℕ → ℤ
-up W s a = nextDue (get byAccount s W) a
+-- the dues moved down
+abbrev moved : List ℤ → Shape → ℕ → ℕ → ℤ
+moved W s a = nextDue (get byAccount s W) a
 
 abbrev Inv-loop : tie.InvT-loop
-Inv-loop words s a new₀ d₀ new d = (d ≤ dues) × (new ≡ filled d (up words s a) new₀)
+Inv-loop words s a new₀ d₀ new d = (d ≤ dues) × (new ≡ filled d (moved words s a) new₀)
 
 abbrev μ-loop : tie.MeasureT-loop
 μ-loop words s a new₀ d₀ new d = dues - d
@@ -29,7 +29,7 @@ module _ (l : tie.At-loop Inv-loop μ-loop) where
   s = l .before
 
   abbrev f : ℕ → ℤ
-  f = up (s .args .words .now) (s .args .s) (s .args .a)
+  f = moved (s .args .words .now) (s .args .s) (s .args .a)
 
   long : length (l .loop .new) ≡ dues
   long = ap length (l .loop .inv .1) ∙ length-filled (l .loop .d) f (s .args .new .now) (omega (arith, s .pre .1 .1, l .loop .inv .0)) ∙ s .pre .1 .1
@@ -66,8 +66,8 @@ returns c =
     let e : l .loop .d ≡ dues = omega arith in
     (rw e at (l .loop .inv .1)) ∙ filled-all dues (f l) (s l .args .new .now) (omega (arith, s l .pre .1 .1))
 
-pub move-up-spec : {M : Type 1} → statement M
-move-up-spec =
+pub move-down-spec : {M : Type 1} → statement M
+move-down-spec =
     tie.close
     (tie.spec
     Inv-loop
