@@ -1,5 +1,5 @@
 -- The words of a close as they are made: dues moved down and margins at 0 in every account; then product by product, and in a product account by account, a
--- position's due, margin and book, each from the words as they stand; then the product's price. `Stages` shows that this is the close of `Close`.
+-- position's due, margin and book, each from the words as they stand; then the product's price. `WholeWalk` shows that this is the close of `Close`.
 use mathlib.Core.List.{List, [], _∷_, _++_}
 use Prim.Native.Nat.{ℕ, zero, suc}
 use lib.IntN.{ℤ, pos, natAbs, _+ℤ_, _*ℤ_}

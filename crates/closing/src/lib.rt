@@ -18,7 +18,7 @@ ghost use Rattle.daily.specs.DailyFigures.{figureOk, overGross};
 ghost use Rattle.daily.specs.Ranges.{Lengths, Rates, Lags, Named, Ready};
 ghost use Rattle.closing.specs.Close as C;
 ghost use Rattle.closing.specs.Walk as W;
-ghost use Rattle.closing.specs.Stages.{Roomy, Column, Started};
+ghost use Rattle.closing.specs.WholeWalk.{Roomy, Column, Started};
 use places::Shape;
 use rules::Reply;
 

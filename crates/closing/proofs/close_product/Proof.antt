@@ -19,7 +19,7 @@ use Rattle.places.specs.Passes.{Agree, turns, length-turns, turns-unseen}
 use Rattle.daily.specs.Once.{singleOf, single-in}
 use Rattle.closing.specs.Walk.{positionPuts, productPuts}
 use Rattle.closing.specs.Written.{accountSees}
-use Rattle.closing.specs.Stages.{turn-off}
+use Rattle.closing.specs.WholeWalk.{turn-off}
 use Rattle.closing.proofs.close_product.Statement.{statement}
 use Rattle.closing.proofs.close_product.Tie as tie
 

@@ -12,7 +12,8 @@ use Rattle.places.specs.Place.{View, get, due}
 use Rattle.places.specs.PlaceLaws.{sized-as}
 use Rattle.places.specs.ByAccount.{byAccount}
 use Rattle.closing.specs.Walk.{productWalked, walked}
-use Rattle.closing.specs.Stages.{Stage, stage-none, stage-walked, length-walked, named-then, column-then}
+use Rattle.closing.specs.Stages.{Stage, stage-walked, length-walked}
+use Rattle.closing.specs.WholeWalk.{stage-none, named-then, column-then}
 use Rattle.closing.proofs.close_products.Statement.{statement}
 use Rattle.closing.proofs.close_products.Tie as tie
 

@@ -7,7 +7,7 @@ use Rattle.places.specs.Place.{View, get, put, each, phase}
 use Rattle.places.specs.ByAccount.{byAccount}
 use Rattle.places.specs.Passes.{sized-of}
 use Rattle.closing.specs.Walk.{startPuts, walked}
-use Rattle.closing.specs.Stages.{Started, started-ready, walked-is}
+use Rattle.closing.specs.WholeWalk.{Started, started-ready, walked-is}
 use borrow.Author.Needs.{needs}
 use Rattle.closing.proofs.close_words.Statement.{statement}
 use Rattle.closing.proofs.close_words.Tie as tie
