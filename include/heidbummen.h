@@ -1,10 +1,10 @@
 /* Heidbummen: the margin ledger's entry points for C and every language that calls C.
  *
  * A ledger is a list of signed 64-bit words that the caller lends (`words`, `count`). docs/RULES.md says which word is which and what a sound ledger is
- * (section 3), what each call does (5 to 7), its numbers and figures (8), what a day file and its sheet are (9, 10) and what this interface adds (12); the
- * rules are those of document 01. Every function takes any words and any figures. It answers a number (0: done) and a figure; a refusal (any other number)
- * leaves everything that was lent as it was (fx_question alone writes: its three figures are then 0). Nothing is kept between calls and nothing is
- * allocated. */
+ * (section 3), what limits and shortfalls are (4), what each call does (5 to 7), its numbers and figures (8), what a day file and its sheet are (9, 10) and what
+ * this interface adds (12); the rules are those of document 01 as the requests of document 02 that have landed change it. Every function takes any words and any
+ * figures. It answers a number (0: done) and a figure; a refusal (any other number) leaves everything that was lent as it was (fx_question alone writes: its
+ * three figures are then 0). Nothing is kept between calls and nothing is allocated. */
 #ifndef HEIDBUMMEN_H
 #define HEIDBUMMEN_H
 
@@ -34,7 +34,8 @@ struct fx_reply fx_withdraw(int64_t *words, size_t count, int64_t account, int64
 /* What does my new letter of guarantee count for? The figure is the LG value. Refused: 1, 3, 5, 6 the account is an L. */
 struct fx_reply fx_guarantee(int64_t *words, size_t count, int64_t account, int64_t guarantee, int64_t cap);
 
-/* How much may I take out, and what am I short of? The three figures are written in every case, 0 when refused: 1, 3. Nothing in the ledger changes. */
+/* How much may I take out, and what am I short of? Limit, first and second shortfall; the second of an L counts what due 0 takes, whatever due 1 brings (M-101).
+ * The three figures are written in every case, 0 when refused: 1, 3. Nothing in the ledger changes. */
 uint64_t fx_question(const int64_t *words, size_t count, int64_t account, int64_t *limit, int64_t *first, int64_t *second);
 
 /* Is the trade taken into the books? The buyer's lots rise, the seller's fall. Refused: 1, 3, 4 no such product, 6 not between one F and one L, 8 lots or price

@@ -198,23 +198,36 @@ fn call(kind: char, lists: &[Vec<i64>]) -> Call {
     }
 }
 
-/// The paper's own figures that are not among R1 to R12 ("Figures by hand"), as
-/// cases of a kind.
+/// The paper's own figures that are not among R1 to R12, as cases of a kind:
+/// those of "Figures by hand", and M-101's.
 fn paper(kind: char) -> Vec<Vec<Vec<i64>>> {
-    let words = |house: i64, cash: i64, due: i64| {
+    // An F and an L by their cash and dues, all else 0.
+    let words = |house: i64, broker: [i64; 4], provider: [i64; 4]| {
         let mut words = vec![2, 1, 0, house, 0, 0, 1_502_500, 0, 0];
-        words.extend([0, cash, 0, 0, 0, due, 0, 0, 0, 0]);
-        words.extend([1, 0, 0, 0, 0, -due, 0, 0, 0, 0]);
+        for (kind, [cash, due0, due1, due2]) in [(0, broker), (1, provider)] {
+            words.extend([kind, cash, 0, 0, 0, due0, due1, due2, 0, 0]);
+        }
         words
     };
+    let cash = |amount: i64| words(0, [amount, 0, 0, 0], [0; 4]);
     let million = 1_000_000;
     match kind {
         // Gross comes to 10^15, and to one yen more.
-        'D' => {
-            [0, 1].map(|more| vec![vec![0, AMOUNT], words(0, GROSS - AMOUNT + more, 0)]).to_vec()
-        }
-        'W' => vec![vec![vec![0, 0], words(0, million, 0)]],
-        'B' => vec![vec![vec![], words(HOUSE, 0, -1)]],
+        'D' => [0, 1].map(|more| vec![vec![0, AMOUNT], cash(GROSS - AMOUNT + more)]).to_vec(),
+        'W' => vec![vec![vec![0, 0], cash(million)]],
+        // An F and an L alike, and a question about each.
+        'Q' => [
+            [80_000, -100_000, 300_000, 0],
+            [80_000, -100_000, -50_000, 0],
+            [80_000, 60_000, -50_000, 0],
+            [-5, 60_000, -50_000, 0],
+            [-5, 7, 3, 0],
+            [0, -GROSS, 0, 0],
+        ]
+        .into_iter()
+        .flat_map(|figures| [0, 1].map(|a| vec![vec![a], words(0, figures, figures)]))
+        .collect(),
+        'B' => vec![vec![vec![], words(HOUSE, [0, -1, 0, 0], [0, 1, 0, 0])]],
         'H' => vec![vec![
             vec![12 * million],
             vec![5 * million; 3],

@@ -71,14 +71,12 @@ impl Account {
         (need - self.cash).max(0)
     }
 
-    /// 0 unless due 1 is negative; then |due 1| less due 0, never below 0.
+    /// What due 1 takes away, which may be 0, then adjusted by due 0: less if
+    /// that is positive, more if negative; never below 0 (2(16), read as M-101
+    /// says).
     #[inline]
     fn next_day_need(&self) -> i64 {
-        if self.due[1] < 0 {
-            (self.due[1].abs() - self.due[0]).max(0)
-        } else {
-            0
-        }
+        (taken_away(self.due[1]) - self.due[0]).max(0)
     }
 
     #[inline]

@@ -51,7 +51,8 @@ fn every_number_is_in_it() {
 }
 
 /// "Figures by hand": gross of 10^15 taken and a yen more refused, a withdrawal
-/// of 0, a house that would pass 10^17, and what is left of 12,000,000.
+/// of 0, a house that would pass 10^17, and what is left of 12,000,000; of M-101
+/// the provider who owes today.
 #[test]
 fn the_papers_figures_are_in_it() {
     let file = write();
@@ -62,6 +63,7 @@ fn the_papers_figures_are_in_it() {
         ),
         ("D 2 0 1000000000000 29 2 1 0 0 0 0 1502500 0 0 0 999000000000001 ", " 10 0 "),
         ("W 2 0 0 ", " 5 0 "),
+        ("Q 1 1 29 2 1 0 0 0 0 1502500 0 0 0 80000 0 0 0 -100000 300000 ", " 0 80000 0 20000 "),
         ("B 0 29 2 1 0 100000000000000000 ", " 13 0 "),
         ("H 1 12000000 3 5000000 5000000 5000000 ", " 0 1100000 "),
     ] {

@@ -1,5 +1,5 @@
-//! "Figures by hand": R1 to R12 and the others, and each number of "Numbers
-//! returned" at its edge.
+//! "Figures by hand": R1 to R12 and the others, those of M-101, and each number
+//! of "Numbers returned" at its edge.
 
 use second::ledger::{sound, Layout, HOUSE_AT, PHASE};
 use second::limits::{AMOUNT, GROSS, HOUSE};
@@ -142,15 +142,42 @@ fn shortfalls_at_the_edges() {
     // No need, and cash below zero: the sentence subtracts cash all the same.
     assert_eq!(Account::read(&broker([-5, 0, 0, 0, 0, 0, 0])).second_shortfall(), 5);
     assert_eq!(Account::read(&provider([-5, 0, 0, 0, 0])).second_shortfall(), 5);
-    // The next-day need is 0 unless due 1 is negative.
+    // Due 0 adjusts the next-day need, which starts at 0 unless due 1 is negative.
     let need = |d0, d1| Account::read(&provider([80_000, 0, d0, d1, 0])).second_shortfall();
-    assert_eq!(need(-100_000, 300_000), 0);
+    assert_eq!(need(-80_000, 1), 0);
+    assert_eq!(need(-80_001, 1), 1);
+    assert_eq!(need(-100_000, 0), 20_000);
     assert_eq!(need(-100_000, -1), 20_001);
     assert_eq!(need(30_000, -100_000), 0);
     assert_eq!(need(10_000, -100_000), 10_000);
     // Required margin stays negative: an excess of dues counts.
     let rich = Account::read(&broker([0, 0, 0, 0, 0, 500, 0]));
     assert_eq!((rich.required(), rich.first_shortfall(), rich.limit()), (-500, 0, 0));
+}
+
+/// M-101: cash and dues, margin 0; limit and both shortfalls of an F, for whom
+/// nothing changes, and of an L.
+#[test]
+fn m101_who_owes_today() {
+    for ([cash, d0, d1, d2], of_broker, of_provider) in [
+        ([80_000, -100_000, 300_000, 0], [0, 0, 20_000], [80_000, 0, 20_000]),
+        ([80_000, -100_000, 0, 300_000], [0, 0, 20_000], [0, 0, 20_000]),
+        ([80_000, -100_000, -50_000, 0], [0, 70_000, 20_000], [0, 70_000, 70_000]),
+        ([80_000, 60_000, -50_000, 0], [80_000, 0, 0], [30_000, 0, 0]),
+        // No need, and none below 0 either: only the cash below zero is short.
+        ([-5, 60_000, -50_000, 0], [0, 0, 5], [0, 0, 5]),
+        ([-5, 7, 3, 0], [0, 0, 5], [0, 0, 5]),
+        ([0, -GROSS, 0, 0], [0, GROSS, GROSS], [0, GROSS, GROSS]),
+    ] {
+        let mut words = two(1);
+        words[PHASE] = 0;
+        words[TWO.account(0)..][..8].copy_from_slice(&broker([cash, 0, 0, 0, d0, d1, d2]));
+        words[TWO.account(1)..][..8].copy_from_slice(&provider([cash, 0, d0, d1, d2]));
+        for (a, [limit, first, second]) in [(0, of_broker), (1, of_provider)] {
+            let expected = Answer { number: 0, limit, first, second };
+            assert_eq!(question(&words, a), expected, "{cash} {d0} {d1} {d2}");
+        }
+    }
 }
 
 #[test]

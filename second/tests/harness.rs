@@ -1,5 +1,5 @@
-//! The harness itself: this program agrees with itself, and each of a row of
-//! wrong clerks is found out.
+//! The harness itself: this program agrees with itself, each of a row of wrong
+//! clerks is found out, and what M-101 speaks of is asked often.
 
 use second::clerk::{Clerk, Lists, Members, Plain};
 use second::harness::Harness;
@@ -7,6 +7,7 @@ use second::ledger::{sound, PHASE};
 use second::margin::{Account, CASH, DUE};
 use second::rng::Rng;
 use second::{Answer, Reply};
+use std::cell::Cell;
 
 #[test]
 fn this_program_agrees_with_itself() {
@@ -81,18 +82,22 @@ impl Clerk for MovesAllAtOnce {
     }
 }
 
+/// This program's answer, and the account where it is not refused.
+fn answered(words: &[i64], account: i64) -> (Answer, Option<Account>) {
+    let answer = second::question(words, account);
+    let at = sound(words).filter(|_| answer.number == 0);
+    (answer, at.map(|at| Account::read(&words[at.account(account as usize)..])))
+}
+
 /// Lets the LG count in excess two.
 struct CountsTheLetterTwice;
 impl Clerk for CountsTheLetterTwice {
     fn question(&self, words: &[i64], account: i64) -> Answer {
-        let mut answer = second::question(words, account);
-        if let (0, Some(at)) = (answer.number, sound(words)) {
-            let a = Account::read(&words[at.account(account as usize)..]);
-            if !a.provider {
-                let two = a.deposit() + a.due[0] - a.margin;
-                let one = a.deposit() - a.required();
-                answer.limit = a.cash.min(one).min(two).max(0);
-            }
+        let (mut answer, asked) = answered(words, account);
+        if let Some(a) = asked.filter(|a| !a.provider) {
+            let two = a.deposit() + a.due[0] - a.margin;
+            let one = a.deposit() - a.required();
+            answer.limit = a.cash.min(one).min(two).max(0);
         }
         answer
     }
@@ -102,10 +107,21 @@ impl Clerk for CountsTheLetterTwice {
 struct HoldsRequiredAtZero;
 impl Clerk for HoldsRequiredAtZero {
     fn question(&self, words: &[i64], account: i64) -> Answer {
-        let mut answer = second::question(words, account);
-        if let (0, Some(at)) = (answer.number, sound(words)) {
-            let a = Account::read(&words[at.account(account as usize)..]);
+        let (mut answer, asked) = answered(words, account);
+        if let Some(a) = asked {
             answer.first = (a.required().max(0) - a.deposit()).max(0);
+        }
+        answer
+    }
+}
+
+/// Asks an L for nothing unless due 1 is negative: document 01 without M-101.
+struct LooksAtTomorrowAlone;
+impl Clerk for LooksAtTomorrowAlone {
+    fn question(&self, words: &[i64], account: i64) -> Answer {
+        let (mut answer, asked) = answered(words, account);
+        if let Some(a) = asked.filter(|a| a.provider && a.due[1] >= 0) {
+            answer.second = (-a.cash).max(0);
         }
         answer
     }
@@ -198,10 +214,46 @@ fn wrong_clerks_are_found_out() {
     is_found_out(&MovesAllAtOnce, "moves all at once");
     is_found_out(&CountsTheLetterTwice, "counts the letter twice");
     is_found_out(&HoldsRequiredAtZero, "holds required at zero");
+    is_found_out(&LooksAtTomorrowAlone, "looks at tomorrow alone");
     is_found_out(&RoundsTowardZero, "rounds toward zero");
     is_found_out(&TieToTheHigher, "tie to the higher");
     is_found_out(&WritesBeside, "writes beside the list");
     is_found_out(&AltersOnRefusal, "alters on refusal");
     is_found_out(&ReadsTooMuch, "reads too much");
     is_found_out(&SpillsAByte, "spills a byte");
+}
+
+/// Counts the questions about an L, and of these the ones about an L who owes
+/// today and not tomorrow: with too little cash, and with enough.
+#[derive(Default)]
+struct CountsWhoOwe(Cell<[u32; 3]>);
+impl Clerk for CountsWhoOwe {
+    fn question(&self, words: &[i64], account: i64) -> Answer {
+        let (answer, asked) = answered(words, account);
+        if let Some(a) = asked.filter(|a| a.provider) {
+            let owes = a.due[0] < 0 && a.due[1] >= 0;
+            let short = a.cash + a.due[0] < 0;
+            let [all, lacking, able] = self.0.get();
+            self.0.set([
+                all + 1,
+                lacking + u32::from(owes && short),
+                able + u32::from(owes && !short),
+            ]);
+        }
+        answer
+    }
+}
+
+/// These are the providers that M-101 speaks of: one question in twenty about an
+/// L, one in fifty without and one with enough cash.
+#[test]
+fn questions_about_who_owes_today_come_often() {
+    let counts = CountsWhoOwe::default();
+    let mut harness = Harness::new(&Plain, &counts);
+    for round in 0..3_000 {
+        harness.round(&mut Rng::of_round(3, round)).expect("no difference");
+    }
+    let [all, lacking, able] = counts.0.get();
+    assert!(20 * (lacking + able) > all, "{lacking} and {able} of {all}");
+    assert!(50 * lacking > all && 50 * able > all, "{lacking} and {able} of {all}");
 }

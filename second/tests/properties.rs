@@ -4,7 +4,7 @@
 use second::clerk::Plain;
 use second::gen::calls::{self, KINDS};
 use second::gen::ledgers::{self, Flavour};
-use second::gen::{shares, spoil};
+use second::gen::{shares, spoil, texts};
 use second::ledger::{self, Layout};
 use second::rng::Rng;
 use second::{share, sheet};
@@ -248,4 +248,22 @@ fn sheets_fit_their_room() {
         let out = sheet(&text);
         assert!(out.len() < 65_536 && out.ends_with(b"\n"));
     }
+}
+
+/// M-101: one sheet in ten shows an L who owes today and not tomorrow.
+#[test]
+fn sheets_show_who_owes_today() {
+    let mut rng = Rng::new(20);
+    let mut showing = 0;
+    for _ in 0..300 {
+        let text = texts::good(&mut rng);
+        let accounts = &text.lines[text.accounts_from()..text.positions_from()];
+        let out = String::from_utf8(sheet(&text.bytes())).expect("a sheet is plain text");
+        let mut shown = accounts.iter().zip(out.lines().skip(1 + text.calls));
+        showing += usize::from(shown.any(|(account, line)| {
+            let figures: Vec<i64> = line.split(' ').map(|f| f.parse().expect("a figure")).collect();
+            account.starts_with('L') && figures[2] < 0 && figures[3] >= 0
+        }));
+    }
+    assert!(showing > 30, "{showing} of 300");
 }

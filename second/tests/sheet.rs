@@ -84,6 +84,14 @@ fn a_day_of_every_line() {
     assert_eq!(sheet, expected);
 }
 
+/// M-101: the sheet asks him for 20,000.
+#[test]
+fn a_provider_who_owes_today() {
+    let day = "FXDAY\nPRODUCTS 1\nACCOUNTS 1\nPOSITIONS 0\nCALLS 0\nEND\nY 0 1\n\
+               L 80000 0 0 0 -100000 300000 0\n";
+    assert_eq!(shown(day), "FXSHEET\n0 80000 -100000 300000 0 80000 0 20000\nHOUSE 0\n");
+}
+
 #[test]
 fn lengths_of_the_text() {
     assert_eq!(sheet(b""), b"BAD 1\n");

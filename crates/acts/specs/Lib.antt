@@ -5,6 +5,7 @@
 --   RunLaws, StepLaws         the same of begin (`beginning`) and of step (`stepping`), and every word after a step
 --   ActsKeep                  each call leaves a ledger
 --   WithdrawalLaws            when a withdrawal is paid, both ways
+--   FormerQuestion            what a question answers as before M-101
 pub mod Requests
 pub mod Trade
 pub mod Run
@@ -15,3 +16,4 @@ pub mod RunLaws
 pub mod StepLaws
 pub mod ActsKeep
 pub mod WithdrawalLaws
+pub mod FormerQuestion

@@ -24,7 +24,7 @@ cross = pos 1
 abbrev F : ℤ
 F = pos 0
 
-abbrev L : ℤ
+abbrev pub L : ℤ
 L = pos 1
 
 abbrev pub account : (kind cash guarantee cap margin due0 due1 due2 : ℤ) → Account

@@ -3,7 +3,6 @@ use mathlib.Core.Bool.{Bool, cond, _&&_}
 use Prim.Native.Nat.{ℕ, _+_}
 use lib.Dec.{leb}
 use lib.IntN.{ℤ, pos, natAbs, _+ℤ_, _-ℤ_, _*ℤ_}
-use lib.Signed.{ltZ}
 use Rattle.whole.specs.Number.{is, between, minZ, maxZ, takesAway, floorDiv}
 use Rattle.rules.specs.Sizes.{mostGuarantee, mostGross, mostMargin}
 use Rattle.rules.specs.declared.Account.{Account}
@@ -28,9 +27,9 @@ requiredOf account = account .margin -ℤ account .due0 -ℤ account .due1 -ℤ 
 unfoldable pub firstShortfall : Account → ℤ
 firstShortfall account = maxZ (pos 0) (requiredOf account -ℤ depositOf account)
 
--- Source 001, 2(16): the next-day need is 0 unless due 1 is negative; then |due 1| minus due 0, or 0 if that is negative.
+-- Source 001, 2(16), as M-101 reads it, of an L: what due 1 takes away (|due 1| where it is negative, else 0) minus due 0, or 0 if that is negative.
 unfoldable pub nextDayNeed : Account → ℤ
-nextDayNeed account = cond (ltZ (account .due1) (pos 0)) (maxZ (pos 0) (takesAway (account .due1) -ℤ account .due0)) (pos 0)
+nextDayNeed account = maxZ (pos 0) (takesAway (account .due1) -ℤ account .due0)
 
 -- Source 001, article 6: F, what due 0 takes away (its absolute value if negative, else 0) minus cash, or 0; L, next-day need minus cash, or 0.
 unfoldable pub secondShortfall : Account → ℤ

@@ -36,6 +36,14 @@ limit-cash a x h i =
     let j : leZ x (maxZ (pos 0) (minZ (a .cash) (minZ (excessOne a) (excessTwo a)))) ≡ true = is-true (leZ x (limitOf a)) (i .le) in
     by (search whole depth 20) (omega (facts, told j (search known depth 20) (omega facts)))
 
+-- and at most excess two
+pub limit-two : (a : Account) (x : ℤ) → pos 1 ≤ℤ x → x ≤ℤ limitOf a → x ≤ℤ excessTwo a
+unfolding limitOf
+limit-two a x h i =
+    let l = leaf (excessOne a) in let m = leaf (excessTwo a) in let k = leaf (a .cash) in let n = leaf x in
+    let j : leZ x (maxZ (pos 0) (minZ (a .cash) (minZ (excessOne a) (excessTwo a)))) ≡ true = is-true (leZ x (limitOf a)) (i .le) in
+    by (search whole depth 20) (omega (facts, told j (search known depth 20) (omega facts)))
+
 -- where cash is not below 0, it is at most cash
 pub limit-most : (a : Account) → pos 0 ≤ℤ a .cash → limitOf a ≤ℤ a .cash
 unfolding limitOf

@@ -5,14 +5,15 @@ use mathlib.Core.Bool.{Bool, true, false, cond, _&&_}
 use Prim.Native.Nat.{_≤_}
 use native.Mathlib.Omega.{arith}
 use lib.Dec.{leb}
-use lib.IntN.{ℤ, pos, natAbs}
+use lib.IntN.{ℤ, pos, natAbs, _+ℤ_}
 use lib.Signed.{ltZ, _≤ℤ_}
 use borrow.Author.Tests.{leb-true}
 use Rattle.whole.specs.Number.{between, takesAway}
-use Rattle.whole.specs.Whole.{whole, facts, by}
+use Rattle.whole.specs.Reps.{leaf}
+use Rattle.whole.specs.Whole.{whole, known, facts, by, told}
 use Rattle.whole.specs.Tests.{both, InRange, in-range, true-or-false}
 use Rattle.rules.specs.Sizes.{mostGuarantee, mostGross, mostMargin}
-use Rattle.rules.specs.Account.{isBroker, guaranteeLimit, grossOf, accountOk, lgValue, depositOf, requiredOf, nextDayNeed}
+use Rattle.rules.specs.Account.{isBroker, guaranteeLimit, grossOf, accountOk, lgValue, depositOf, requiredOf, nextDayNeed, secondShortfall}
 use Rattle.rules.specs.ProductLaws.{at-least}
 use Rattle.rules.specs.declared.Account.{Account}
 
@@ -93,8 +94,26 @@ pub required-in : (a : Account) → accountOk a ≡ true → natAbs (requiredOf 
 unfolding requiredOf
 required-in a e = let i = account-facts a e in by (search whole depth 20) (omega facts)
 
-pub need-in : (a : Account) → accountOk a ≡ true → natAbs (nextDayNeed a) ≤ 2000000000000000
+-- the next-day need by cases: where due 1 is negative, what both dues take away together; else what due 0 takes away
+pub need-of-both : (a : Account) → ltZ (a .due1) (pos 0) ≡ true → nextDayNeed a ≡ takesAway (a .due0 +ℤ a .due1)
 unfolding nextDayNeed takesAway
-need-in a e =
+need-of-both a h =
+    let l = leaf (a .due0) in let m = leaf (a .due1) in
+    by (search whole depth 20) (omega (facts, told h (search known depth 20) (omega facts)))
+
+pub need-of-today : (a : Account) → ltZ (a .due1) (pos 0) ≡ false → nextDayNeed a ≡ takesAway (a .due0)
+unfolding nextDayNeed takesAway
+need-of-today a h =
+    let l = leaf (a .due0) in let m = leaf (a .due1) in
+    by (search whole depth 20) (omega (facts, told h (search known depth 20) (omega facts)))
+
+-- a need is of two dues, a second shortfall of a need and cash: neither passes the most that gross may be
+pub need-in : (a : Account) → accountOk a ≡ true → natAbs (nextDayNeed a) ≤ mostGross
+unfolding nextDayNeed takesAway
+need-in a e = let i = account-facts a e in by (search whole depth 20) (omega facts)
+
+pub second-in : (a : Account) → accountOk a ≡ true → natAbs (secondShortfall a) ≤ mostGross
+unfolding secondShortfall nextDayNeed takesAway
+second-in a e =
     let i = account-facts a e in
-    ⊎-elim (λ h. by (search whole depth 20) (omega facts)) (λ h. by (search whole depth 20) (omega facts)) (true-or-false (ltZ (a .due1) (pos 0)))
+    ⊎-elim (λ h. by (search whole depth 20) (omega facts)) (λ h. by (search whole depth 20) (omega facts)) (true-or-false (isBroker a))

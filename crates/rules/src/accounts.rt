@@ -118,7 +118,8 @@ pub fn first_shortfall(account: Account) -> i64
     whole::max(0, required_of(account) - deposit_of(account))
 }
 
-// Source 001, 2(16): the next-day need of an L.
+// Source 001, 2(16), as M-101 reads it: the next-day need of an L. Where due 1 is negative it is what both dues take away together; where it is not, the
+// need starts from 0, and is what due 0 takes away.
 pub fn next_day_need(account: Account) -> i64
     requires { ⌜ accountOk account ≡ true ⌝ }
     ensures { λ r. ⌜ r ≡ nextDayNeed account ⌝ }
@@ -126,9 +127,9 @@ pub fn next_day_need(account: Account) -> i64
     let due0 = account.due0;
     let due1 = account.due1;
     if due1 < 0 {
-        return whole::max(0, whole::takes_away(due1) - due0);
+        return whole::takes_away(due0 + due1);
     }
-    0
+    whole::takes_away(due0)
 }
 
 // Source 001, article 6: the second shortfall.

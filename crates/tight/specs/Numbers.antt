@@ -17,7 +17,7 @@ use Rattle.acts.specs.Trade.{tradeRule}
 use Rattle.acts.specs.Run.{beginRule, stepRule}
 use Rattle.daily.specs.DailyFigures.{newDue, newMargin}
 use Rattle.closing.specs.Close.{accountPuts, closePuts, closeRule}
-use Rattle.tight.specs.Small.{ledger, account, broker, provider, opening, settled, full, holding, short, withGuarantee, overdrawn, brim}
+use Rattle.tight.specs.Small.{ledger, account, broker, provider, opening, settled, full, holding, short, withGuarantee, owing, receiving, overdrawn, brim}
 
 -- the rule on the words W is refused with the number k and the figure z, and leaves the words
 abbrev pub Refuses : List ℤ → Rule Reply → ℕ → ℤ → Type 0
@@ -127,6 +127,10 @@ pub record Acceptances : Type 0 where
   pub question-guarantee : ask byAccount withGuarantee (questionRule (pos 0)) ≡ (record { number = 0; limit = pos 300000; first = pos 0; second = pos 0 }, withGuarantee)
   -- required margin is negative, and is not held at zero: the first shortfall is -50,000 less -100,000
   pub question-negative : ask byAccount overdrawn (questionRule (pos 0)) ≡ (record { number = 0; limit = pos 0; first = pos 50000; second = pos 100000 }, overdrawn)
+  -- M-101: the need is what due 0 takes, though due 1 takes nothing; the limit counts due 1
+  pub question-owing : ask byAccount owing (questionRule (pos 1)) ≡ (record { number = 0; limit = pos 80000; first = pos 0; second = pos 20000 }, owing)
+  -- what is received today lessens the need, and is not added to it
+  pub question-receiving : ask byAccount receiving (questionRule (pos 1)) ≡ (record { number = 0; limit = pos 0; first = pos 0; second = pos 0 }, receiving)
 
 pub acceptances : Acceptances
 unfolding soundBy performBy byAccount accountOk limitOf excessOne excessTwo depositOf lgValue requiredOf firstShortfall secondShortfall nextDayNeed deposited withdrawn guaranteed standingOf takesAway minZ maxZ floorDiv closePuts accountPuts newDue newMargin rateOf differenceOf
@@ -144,4 +148,6 @@ acceptances =
       question-limit = refl;
       question-guarantee = refl;
       question-negative = refl;
+      question-owing = refl;
+      question-receiving = refl;
     }

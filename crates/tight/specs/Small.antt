@@ -41,6 +41,17 @@ short = ledger (pos 0) (pos 0) (pos 1502500) (account (pos 0) (pos 80000) (pos 0
 abbrev pub withGuarantee : List ℤ
 withGuarantee = ledger (pos 0) (pos 0) (pos 1502500) (pos 0 ∷ pos 1000000 ∷ pos 500000 ∷ pos 500000 ∷ pos 600000 ∷ negsuc 99999 ∷ pos 50000 ∷ pos 0 ∷ pos 0 ∷ pos 0 ∷ provider (pos 0) (pos 0) (pos 0) (pos 0) [])
 
+-- M-101: the provider by its cash, due 0 and due 1, without initial margin
+abbrev pub providing : ℤ → ℤ → ℤ → List ℤ
+providing cash due0 due1 = ledger (pos 0) (pos 0) (pos 1502500) (broker (pos 0) (pos 0) (pos 0) (pos 0) (pos 1 ∷ cash ∷ pos 0 ∷ pos 0 ∷ pos 0 ∷ due0 ∷ due1 ∷ pos 0 ∷ pos 0 ∷ pos 0 ∷ []))
+
+-- due to pay 100,000 today and receive 300,000 tomorrow, with 80,000 held; to receive 60,000 today and pay 50,000 tomorrow, with nothing held
+abbrev pub owing : List ℤ
+owing = providing (pos 80000) (negsuc 99999) (pos 300000)
+
+abbrev pub receiving : List ℤ
+receiving = providing (pos 0) (pos 60000) (negsuc 49999)
+
 -- F, cash -100,000, no initial margin, due 0 50,000: required margin is -50,000
 abbrev pub overdrawn : List ℤ
 overdrawn = ledger (pos 0) (pos 0) (pos 1502500) (broker (negsuc 99999) (pos 50000) (pos 0) (pos 0) (provider (pos 0) (pos 0) (pos 0) (pos 0) []))

@@ -99,10 +99,11 @@ fn parts(at: Layout) -> Vec<(&'static str, Part)> {
     let copies = 2_048 / at.n;
     let last = at.n as i64 - 1;
     vec![
-        ("soundness (question about -1)", question(at, -1, times, 3)),
+        ("soundness (question about -1)", question(ledger(at, 0), -1, times, 3)),
         ("deposit", deposit(at, last, times)),
         ("deposit refused with 10", refused_deposit(at, last, times)),
-        ("question", question(at, last, times, 0)),
+        ("question", question(ledger(at, 0), last, times, 0)),
+        ("question, an L who owes today", question(owing(at), 1, times, 0)),
         ("trade (there and back, each)", trade(at, times)),
         ("run (begin and n steps)", run(at, copies.min(64))),
         ("close", close(at, copies)),
@@ -111,8 +112,16 @@ fn parts(at: Layout) -> Vec<(&'static str, Part)> {
     ]
 }
 
-fn question(at: Layout, account: i64, times: usize, number: u64) -> Part {
-    let words = ledger(at, 0);
+/// An ordinary ledger whose account 1 is the provider of M-101.
+fn owing(at: Layout) -> Vec<i64> {
+    let mut words = ledger(at, 0);
+    let record = &mut words[at.account(1)..];
+    record[CASH] = 80_000;
+    record[DUE..DUE + 3].copy_from_slice(&[-100_000, 300_000, 0]);
+    words
+}
+
+fn question(words: Vec<i64>, account: i64, times: usize, number: u64) -> Part {
     Box::new(move |clerk| {
         assert_eq!(clerk.question(&words, account).number, number);
         timed(times, || {
