@@ -1,5 +1,5 @@
 // Runs the code of the rule book on the figures of document 01 that concern one product, one account or a default loss, "Figures by hand"
-// first, then the figures of the requests and the bounds of its ranges.
+// first, then the bounds of its ranges.
 use lines::account;
 use lines::broker;
 use lines::deposit;
@@ -65,38 +65,6 @@ fn accounts_by_hand() {
     limit(b"R9 limit after its transfer", transfer(ninth), 450000);
     first(b"R10 first shortfall", tenth, 620000);
     second(b"R10 second shortfall", tenth, 20000);
-}
-
-// ---- M-101: liquidity providers who owe today
-
-fn provider_owing_today() {
-    let owing = provider(80000, 0, -100000, 300000, 0);
-    limit(b"M-101 limit, owes today", owing, 80000);
-    first(b"M-101 first shortfall, owes today", owing, 0);
-    second(b"M-101 second shortfall, owes today", owing, 20000);
-    second(
-        b"M-101 second shortfall, owes today and tomorrow",
-        provider(80000, 0, -100000, -50000, 0),
-        70000,
-    );
-}
-
-fn needs_at_the_edges() {
-    second(
-        b"M-101 second shortfall, receives more today",
-        provider(0, 0, 60000, -50000, 0),
-        0,
-    );
-    second(
-        b"M-101 second shortfall, cash -5",
-        provider(-5, 0, 7, 3, 0),
-        5,
-    );
-    second(
-        b"M-101 second shortfall, the largest",
-        provider(0, 0, -1000000000000000, 0, 0),
-        1000000000000000,
-    );
 }
 
 // ---- rates, margins, rounding
@@ -327,8 +295,6 @@ fn main() {
     products_by_hand();
     accounts_by_hand();
     losses::losses_by_hand();
-    provider_owing_today();
-    needs_at_the_edges();
     rates();
     rounding();
     full_accounts();
