@@ -1,10 +1,11 @@
 /* Heidbummen: the margin ledger's entry points for C and every language that calls C.
  *
  * A ledger is a list of signed 64-bit words that the caller lends (`words`, `count`). docs/RULES.md says which word is which and what a sound ledger is
- * (section 3), what limits and shortfalls are (4), what each call does (5 to 7), its numbers and figures (8), what a day file and its sheet are (9, 10) and what
- * this interface adds (12); the rules are those of document 01 as the requests of document 02 that have landed change it. Every function takes any words and any
- * figures. It answers a number (0: done) and a figure; a refusal (any other number) leaves everything that was lent as it was (fx_question alone writes: its
- * three figures are then 0). Nothing is kept between calls and nothing is allocated. */
+ * (section 3), what limits and shortfalls are (4), what each call does (5 to 7), its numbers and figures (8), what a day file and its sheet are (9, 10), what
+ * this interface adds (12), how a rate comes from price history (13); the rules are those of document 01 as the requests of document 02 that have landed
+ * change it. Every function takes any words and any figures. It answers a number (0: done) and a figure; a refusal (any other number) leaves everything that
+ * was lent as it was (fx_question and fx_rate alone write, to the places lent for their answer: figures and count 0). Nothing is kept between calls and
+ * nothing is allocated. */
 #ifndef HEIDBUMMEN_H
 #define HEIDBUMMEN_H
 
@@ -57,6 +58,14 @@ struct fx_reply fx_close(int64_t *words, size_t count, const int64_t *prices, si
  * five lists have one length, 1..64. Refused: 2, 5 the loss is out of range, 8 a deposit, difference or mark is. */
 struct fx_reply fx_share(int64_t loss, const int64_t *deposits, size_t deposits_count, const int64_t *differences, size_t differences_count,
                          const int64_t *marks, size_t marks_count, int64_t *first, size_t first_count, int64_t *second, size_t second_count);
+
+/* What rate does this price history ask for, and which window governs? The figure is the larger rate, in hundredths of a percent (M-105). A window is a list of
+ * natural logarithms of daily price ratios, in whole hundred-thousandths. Done: `*governs` points at the first figure of the list that gave the larger rate, the 8-week
+ * list on a tie, and `*governs_count` is its length: all of the caller's own list. Refused: 2 a list has fewer than 2 figures or more than 520, 8 a figure is not in
+ * -20,000..20,000; then `*governs_count` is 0 and `*governs` points at the start of `weeks8`, or stays as it was where that list has no figure. What `*governs` holds
+ * before is never read. */
+struct fx_reply fx_rate(const int64_t *weeks8, size_t weeks8_count, const int64_t *weeks104, size_t weeks104_count, const int64_t **governs,
+                        size_t *governs_count);
 
 /* The same as a deposit and a withdrawal, on a single record: the teller window. Refused: 1 the record is not sound, 5, and 10 or 11. */
 struct fx_reply fx_teller_deposit(struct fx_account *account, int64_t amount);

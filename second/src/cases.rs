@@ -18,19 +18,20 @@
 //! | `P` teller's deposit | (amount), record | number, figure, checksum |
 //! | `R` teller's withdrawal | (amount), record | number, figure, checksum |
 //! | `X` sheet | (), bytes of the text | bytes of the sheet, 0, checksum |
+//! | `M` margin rate | 8-week list, 104-week list | number, figure, checksum |
 //!
 //! The checksum is of the words at exit: of the ledger or the record; of the
-//! list `first` and after it `second`; of the sheet's bytes. It begins with how
-//! many they are, and each word w in turn makes of a sum c
-//! (c × 1,000,003 + r) mod 2,147,483,647, where r is w mod 2,147,483,647 taken
-//! from 0 upward. No step of it leaves signed 64 bits.
+//! list `first` and after it `second`; of the sheet's bytes; of the list that a
+//! margin rate hands back. It begins with how many they are, and each word w in
+//! turn makes of a sum c (c × 1,000,003 + r) mod 2,147,483,647, where r is
+//! w mod 2,147,483,647 taken from 0 upward. No step of it leaves signed 64 bits.
 
 use crate::clerk::{Clerk, Members, Plain};
 use crate::gen::calls::{self, Call, Kind};
 use crate::gen::ledgers::{self, Flavour};
-use crate::gen::{argument, damage, shares, spoil, texts};
+use crate::gen::{argument, damage, rates, shares, spoil, texts};
 use crate::ledger::Layout;
-use crate::limits::{AMOUNT, GROSS, HOUSE, TEXT};
+use crate::limits::{AMOUNT, GROSS, HOUSE, LOG_RATIO, TEXT};
 use crate::margin::{Account, RECORD};
 use crate::rng::Rng;
 
@@ -39,7 +40,7 @@ const SEED: u64 = 1_975;
 const LONGEST: usize = 900;
 
 /// How many of each kind at the least, and the numbers that must come up.
-const KINDS: [(char, usize, &[i64]); 12] = [
+const KINDS: [(char, usize, &[i64]); 13] = [
     ('D', 50, &[0, 1, 3, 5, 10]),
     ('W', 60, &[0, 1, 3, 5, 11]),
     ('G', 50, &[0, 1, 3, 5, 6]),
@@ -52,6 +53,7 @@ const KINDS: [(char, usize, &[i64]); 12] = [
     ('P', 30, &[0, 1, 5, 10]),
     ('R', 40, &[0, 1, 5, 11]),
     ('X', 40, &[]),
+    ('M', 30, &[0, 2, 8]),
 ];
 
 /// The whole file, always the same.
@@ -148,6 +150,7 @@ fn outcome(clerk: &dyn Clerk, kind: char, lists: &[Vec<i64>]) -> Vec<i64> {
             let written = [first, second].concat();
             vec![reply.number as i64, reply.figure, checksum(written.into_iter())]
         }
+        'M' => rated(clerk, &lists[0], &lists[1]),
         'P' | 'R' => {
             let mut record: [i64; RECORD] =
                 lists[1].as_slice().try_into().expect("a record has eight figures");
@@ -176,6 +179,15 @@ fn outcome(clerk: &dyn Clerk, kind: char, lists: &[Vec<i64>]) -> Vec<i64> {
     }
 }
 
+/// Number, rate and checksum of the part handed back: -1, which no list has,
+/// where it is no part of either list.
+fn rated(clerk: &dyn Clerk, weeks8: &[i64], weeks104: &[i64]) -> Vec<i64> {
+    let rating = clerk.rate(weeks8, weeks104);
+    let part = rating.part(weeks8, weeks104);
+    let sum = part.map_or(-1, |part| checksum(part.iter().copied()));
+    vec![rating.reply.number as i64, rating.reply.figure, sum]
+}
+
 /// The call on a ledger that a kind and its lists make.
 fn call(kind: char, lists: &[Vec<i64>]) -> Call {
     match (kind, lists[0].as_slice()) {
@@ -199,7 +211,7 @@ fn call(kind: char, lists: &[Vec<i64>]) -> Call {
 }
 
 /// The paper's own figures that are not among R1 to R12, as cases of a kind:
-/// those of "Figures by hand", and M-101's.
+/// those of "Figures by hand", and M-101's; and lists by hand for M-105.
 fn paper(kind: char) -> Vec<Vec<Vec<i64>>> {
     // An F and an L by their cash and dues, all else 0.
     let words = |house: i64, broker: [i64; 4], provider: [i64; 4]| {
@@ -236,8 +248,79 @@ fn paper(kind: char) -> Vec<Vec<Vec<i64>>> {
             vec![7; 3],
             vec![-7; 3],
         ]],
+        'M' => windows(),
         _ => vec![],
     }
+}
+
+/// Pairs of lists of log ratios: rates at their edges, ties, lengths and figures
+/// at the ends of their ranges and past them, more than one thing wrong.
+fn windows() -> Vec<Vec<Vec<i64>>> {
+    [windows_taken(), windows_refused()].concat()
+}
+
+fn windows_taken() -> Vec<Vec<Vec<i64>>> {
+    let end = LOG_RATIO;
+    let (hundred, fives) = (vec![0, 100], vec![5; 3]);
+    // The exact figure is 233, and a bit more or less than it.
+    let whole = |last: i64| vec![-1_000, 1_000, -1_000, last, 0];
+    let halves = [vec![-end; 260], vec![end; 260]].concat();
+    // One-digit figures as they come.
+    let small = |count: i64| (0..count).map(|k| k * k * k % 19 - 9).collect::<Vec<i64>>();
+    vec![
+        vec![hundred.clone(), fives.clone()],
+        vec![fives.clone(), vec![0, 200]],
+        vec![whole(1_000), hundred.clone()],
+        vec![hundred.clone(), whole(1_001)],
+        vec![whole(999), whole(1_000)],
+        vec![whole(1_000), whole(1_001)],
+        vec![fives.clone(), vec![-7; 2]],
+        vec![vec![-end, end], vec![0, 200]],
+        vec![vec![0, 200], halves],
+        // Ties: the same figures, in another order, and a larger deviation that
+        // comes to the same rate; the next larger one does not. Nothing moves in
+        // the one window and a little in the other: both rates are 1.
+        vec![hundred.clone(), hundred.clone()],
+        vec![hundred.clone(), vec![100, 0]],
+        vec![hundred.clone(), vec![0, 103]],
+        vec![hundred, vec![0, 104]],
+        vec![vec![0, 0], vec![0, 1]],
+        // As many figures as the two windows have.
+        vec![small(40), small(520)],
+        vec![but_last(520, end), fives],
+        vec![but_last(520, 6), small(520)],
+    ]
+}
+
+/// Figures alike but for the last.
+fn but_last(count: usize, last: i64) -> Vec<i64> {
+    [vec![5; count - 1], vec![last]].concat()
+}
+
+fn windows_refused() -> Vec<Vec<Vec<i64>>> {
+    let past = LOG_RATIO + 1;
+    let hundred = vec![0, 100];
+    vec![
+        // Lengths.
+        vec![vec![7], hundred.clone()],
+        vec![hundred.clone(), vec![7]],
+        vec![vec![5; 521], hundred.clone()],
+        vec![hundred.clone(), vec![5; 521]],
+        vec![vec![], hundred.clone()],
+        vec![hundred.clone(), vec![]],
+        vec![vec![], vec![]],
+        // Figures.
+        vec![vec![past, 0], hundred.clone()],
+        vec![hundred.clone(), vec![0, -past]],
+        vec![but_last(520, past), hundred.clone()],
+        vec![vec![i64::MIN, i64::MAX], hundred.clone()],
+        vec![hundred, vec![i64::MAX, i64::MIN]],
+        // Both: the length comes first.
+        vec![vec![7], vec![0, past]],
+        vec![vec![0, past], vec![7]],
+        vec![vec![], vec![past; 3]],
+        vec![vec![-past], vec![5; 3]],
+    ]
 }
 
 /// A case of a kind, as the lists it lends.
@@ -248,6 +331,10 @@ fn draw(rng: &mut Rng, kind: char) -> Vec<Vec<i64>> {
             // What the written lists hold before needs few digits here.
             let (first, second) = (vec![7; of.first.len()], vec![-7; of.second.len()]);
             vec![vec![of.loss], of.deposits, of.differences, of.marks, first, second]
+        }
+        'M' => {
+            let of = rates::draw(rng);
+            vec![of.weeks8, of.weeks104]
         }
         'P' | 'R' => teller(rng),
         'X' => {

@@ -22,6 +22,46 @@ pub struct Members<'a> {
     pub marks: &'a [i64],
 }
 
+/// The answer about a margin rate: the reply, where the part handed back
+/// begins, and how many figures it has.
+#[derive(Clone, Copy, Debug, PartialEq, Eq)]
+pub struct Rating {
+    pub reply: Reply,
+    pub from: Window,
+    pub count: usize,
+}
+
+/// A list lent for a margin rate, told by its first figure's place.
+#[derive(Clone, Copy, Debug, PartialEq, Eq)]
+pub enum Window {
+    Weeks8,
+    Weeks104,
+    Neither,
+}
+
+impl Rating {
+    /// Told by the place and not by the figures there, so that a copy shows.
+    /// `starts` has the places of the 8-week and of the 104-week list; where
+    /// they are the same, the count tells the lists apart.
+    pub fn told(reply: Reply, starts: [*const i64; 2], part: *const i64, count: usize) -> Rating {
+        let from = match starts.iter().position(|&start| start == part) {
+            Some(0) => Window::Weeks8,
+            Some(_) => Window::Weeks104,
+            None => Window::Neither,
+        };
+        Rating { reply, from, count }
+    }
+
+    /// The part handed back, of lists that lie apart; none if it is no part.
+    pub fn part<'a>(&self, weeks8: &'a [i64], weeks104: &'a [i64]) -> Option<&'a [i64]> {
+        match self.from {
+            Window::Weeks8 => weeks8.get(..self.count),
+            Window::Weeks104 => weeks104.get(..self.count),
+            Window::Neither => None,
+        }
+    }
+}
+
 /// Every call. What a clerk does not say otherwise, this program answers.
 pub trait Clerk {
     fn deposit(&self, words: &mut [i64], account: i64, amount: i64) -> Reply {
@@ -58,6 +98,10 @@ pub trait Clerk {
     }
     fn share(&self, loss: i64, of: Members, first: &mut [i64], second: &mut [i64]) -> Reply {
         crate::share(loss, of.deposits, of.differences, of.marks, first, second)
+    }
+    fn rate(&self, weeks8: &[i64], weeks104: &[i64]) -> Rating {
+        let (reply, part) = crate::rate(weeks8, weeks104);
+        Rating::told(reply, [weeks8.as_ptr(), weeks104.as_ptr()], part.as_ptr(), part.len())
     }
     fn teller_deposit(&self, record: &mut [i64; RECORD], amount: i64) -> Reply {
         crate::teller::deposit(record, amount)

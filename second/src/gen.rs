@@ -1,10 +1,11 @@
-//! Generators: ledgers sound and spoiled, calls, loss-sharing inputs, day
-//! files good and damaged. Ends of ranges come far more often than chance
-//! would have them, for that is where programs differ.
+//! Generators: ledgers sound and spoiled, calls, loss-sharing inputs, lists of
+//! log ratios, day files good and damaged. Ends of ranges come far more often
+//! than chance would have them, for that is where programs differ.
 
 pub mod calls;
 pub mod damage;
 pub mod ledgers;
+pub mod rates;
 pub mod shares;
 pub mod spoil;
 pub mod texts;

@@ -1,10 +1,10 @@
 //! Two clerks side by side: the same input to both, and every reply, word,
 //! list and byte compared at exit.
 
-use crate::clerk::{Clerk, Members};
+use crate::clerk::{Clerk, Members, Rating};
 use crate::gen::calls::{self, Call, Kind, Outcome, KINDS};
 use crate::gen::ledgers::{self, Flavour};
-use crate::gen::{argument, damage, shares, spoil};
+use crate::gen::{argument, damage, rates, shares, spoil};
 use crate::limits::{AMOUNT, GROSS, TEXT};
 use crate::margin::{Account, RECORD};
 use crate::rng::Rng;
@@ -69,7 +69,7 @@ impl<'a> Harness<'a> {
 
     /// One round: a single call of some kind, a day, or a run.
     pub fn round(&mut self, rng: &mut Rng) -> Result<(), Difference> {
-        match rng.below(32) {
+        match rng.below(35) {
             0..=15 => {
                 let kind = rng.pick(&KINDS);
                 self.single(rng, kind)
@@ -79,7 +79,8 @@ impl<'a> Harness<'a> {
             21..=24 => self.sharing(rng),
             25..=28 => self.text(rng),
             29 => self.day(rng),
-            _ => self.run(rng),
+            30 | 31 => self.run(rng),
+            _ => self.rating(rng),
         }
     }
 
@@ -209,6 +210,25 @@ impl<'a> Harness<'a> {
         }
     }
 
+    fn rating(&mut self, rng: &mut Rng) -> Result<(), Difference> {
+        let drawn = rates::draw(rng);
+        let lend = || [Lent::new(&drawn.weeks8), Lent::new(&drawn.weeks104)];
+        let (one, other) = (lend(), lend());
+        let left = rate(self.left, drawn.part_at, &one);
+        let right = rate(self.right, drawn.part_at, &other);
+        self.count("rate", left.reply.number);
+        let wrong = (left != right)
+            .then(|| format!("left {left:?}, right {right:?}"))
+            .or_else(|| first_difference(&one[0], &other[0]).map(|d| format!("8-week list, {d}")))
+            .or_else(|| {
+                first_difference(&one[1], &other[1]).map(|d| format!("104-week list, {d}"))
+            });
+        match wrong {
+            Some(wrong) => Err(Difference(format!("rate {drawn:?}\n{wrong}"))),
+            None => Ok(()),
+        }
+    }
+
     fn text(&mut self, rng: &mut Rng) -> Result<(), Difference> {
         let (what, text) = damage::draw(rng);
         let room = match rng.below(16) {
@@ -274,4 +294,14 @@ fn share(clerk: &dyn Clerk, of: &shares::Loss, lists: &mut [Lent; 2]) -> Reply {
         Members { deposits: &of.deposits, differences: &of.differences, marks: &of.marks };
     let [first, second] = lists;
     clerk.share(of.loss, members, first.list(), second.list())
+}
+
+/// The 8-week list is lent by itself, or as the part of the other that begins
+/// at a place.
+fn rate(clerk: &dyn Clerk, part_at: Option<usize>, lists: &[Lent; 2]) -> Rating {
+    let [weeks8, weeks104] = lists.each_ref().map(Lent::seen);
+    match part_at {
+        Some(at) => clerk.rate(&weeks104[at..at + weeks8.len()], weeks104),
+        None => clerk.rate(weeks8, weeks104),
+    }
 }

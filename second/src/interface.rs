@@ -1,6 +1,6 @@
 //! The archive of the proved program, through its C names.
 
-use crate::clerk::{Clerk, Lists, Members};
+use crate::clerk::{Clerk, Lists, Members, Rating};
 use crate::margin::RECORD;
 use crate::{Answer, Reply};
 
@@ -52,6 +52,14 @@ extern "C" {
         first_count: usize,
         second: *mut i64,
         second_count: usize,
+    ) -> Reply;
+    fn fx_rate(
+        weeks8: *const i64,
+        weeks8_count: usize,
+        weeks104: *const i64,
+        weeks104_count: usize,
+        governs: *mut *const i64,
+        governs_count: *mut usize,
     ) -> Reply;
     // The record is eight words in the order of `struct fx_account`.
     fn fx_teller_deposit(account: *mut i64, amount: i64) -> Reply;
@@ -133,6 +141,24 @@ impl Clerk for Interface {
                 second.len(),
             )
         }
+    }
+    fn rate(&self, weeks8: &[i64], weeks104: &[i64]) -> Rating {
+        // What the call fails to write must show as a difference.
+        let kept = 0_i64;
+        let (mut governs, mut count) = (&raw const kept, usize::MAX);
+        let reply = unsafe {
+            fx_rate(
+                weeks8.as_ptr(),
+                weeks8.len(),
+                weeks104.as_ptr(),
+                weeks104.len(),
+                &mut governs,
+                &mut count,
+            )
+        };
+        // A list without figures has none to point at: the pointer then stays.
+        let start = if weeks8.is_empty() { &raw const kept } else { weeks8.as_ptr() };
+        Rating::told(reply, [start, weeks104.as_ptr()], governs, count)
     }
     fn teller_deposit(&self, record: &mut [i64; RECORD], amount: i64) -> Reply {
         unsafe { fx_teller_deposit(record.as_mut_ptr(), amount) }

@@ -18,6 +18,7 @@ pub mod interface;
 pub mod ledger;
 pub mod limits;
 pub mod margin;
+pub mod rates;
 pub mod reader;
 pub mod rng;
 pub mod run;
@@ -27,6 +28,7 @@ pub mod teller;
 
 pub use calls::{deposit, guarantee, question, trade, withdraw};
 pub use close::close;
+pub use rates::rate;
 pub use run::{begin, step};
 pub use share::share;
 pub use sheet::sheet;

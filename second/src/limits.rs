@@ -1,5 +1,7 @@
 //! The ranges of "Units and sizes". All limits are inclusive.
 
+use std::ops::RangeInclusive;
+
 pub const ACCOUNTS: i64 = 64;
 pub const PRODUCTS: i64 = 16;
 
@@ -27,6 +29,11 @@ pub const LOSS: i64 = 100_000_000_000_000;
 pub const WEIGHT: i64 = 1_000_000_000_000;
 pub const DIFFERENCE: i64 = 1_000_000_000_000;
 pub const MEMBERS: usize = 64;
+
+/// Margin rates: how many figures a list has, and the most of a figure on
+/// either side, in hundred-thousandths (M-105).
+pub const HISTORY: RangeInclusive<usize> = 2..=520;
+pub const LOG_RATIO: i64 = 20_000;
 
 /// The sheet program: bytes of a text, calls of a day.
 pub const TEXT: usize = 65_536;

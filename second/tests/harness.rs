@@ -1,7 +1,7 @@
 //! The harness itself: this program agrees with itself, each of a row of wrong
 //! clerks is found out, and what M-101 speaks of is asked often.
 
-use second::clerk::{Clerk, Lists, Members, Plain};
+use second::clerk::{Clerk, Lists, Members, Plain, Rating, Window};
 use second::harness::Harness;
 use second::ledger::{sound, PHASE};
 use second::margin::{Account, CASH, DUE};
@@ -26,6 +26,7 @@ fn this_program_agrees_with_itself() {
         ("step", &[0, 1, 7]),
         ("close", &[0, 1, 2, 7, 8, 12]),
         ("share", &[0, 2, 5, 8]),
+        ("rate", &[0, 2, 8]),
         ("teller deposit", &[0, 1, 5, 10]),
         ("teller withdraw", &[0, 1, 5, 11]),
     ] {
@@ -163,6 +164,122 @@ impl Clerk for TieToTheHigher {
     }
 }
 
+/// An answer about a rate, with another list in place of the one handed back.
+fn handing_back(given: Rating, weeks8: &[i64], weeks104: &[i64], part: &[i64]) -> Rating {
+    let starts = [weeks8.as_ptr(), weeks104.as_ptr()];
+    Rating::told(given.reply, starts, part.as_ptr(), part.len())
+}
+
+/// Takes the 104-week list on a tie.
+struct TieToTheLonger;
+impl Clerk for TieToTheLonger {
+    fn rate(&self, weeks8: &[i64], weeks104: &[i64]) -> Rating {
+        let given = Plain.rate(weeks8, weeks104);
+        let tie = given == Plain.rate(weeks8, weeks8)
+            && given.reply == Plain.rate(weeks104, weeks104).reply;
+        match given.reply.number {
+            0 if tie => handing_back(given, weeks8, weeks104, weeks104),
+            _ => given,
+        }
+    }
+}
+
+/// Compares the deviations, so that it sees no tie of rates that are rounded up.
+struct ComparesDeviations;
+impl Clerk for ComparesDeviations {
+    fn rate(&self, weeks8: &[i64], weeks104: &[i64]) -> Rating {
+        let given = Plain.rate(weeks8, weeks104);
+        if given.reply.number != 0 || deviation(weeks104) <= deviation(weeks8) {
+            return given;
+        }
+        handing_back(given, weeks8, weeks104, weeks104)
+    }
+}
+
+fn deviation(list: &[i64]) -> f64 {
+    let count = list.len() as f64;
+    let mean = list.iter().sum::<i64>() as f64 / count;
+    let squares: f64 = list.iter().map(|&x| (x as f64 - mean).powi(2)).sum();
+    (squares / (count - 1.0)).sqrt()
+}
+
+/// Works the figure out in floating point, as a spreadsheet does.
+struct RoundsOnTheWay;
+impl Clerk for RoundsOnTheWay {
+    fn rate(&self, weeks8: &[i64], weeks104: &[i64]) -> Rating {
+        let mut given = Plain.rate(weeks8, weeks104);
+        if given.reply.number == 0 {
+            let exact = deviation(weeks8).max(deviation(weeks104)) / 100_000.0 * 2.33 * 100.0;
+            given.reply.figure = ((exact * 100.0).ceil() as i64).max(1);
+        }
+        given
+    }
+}
+
+/// Goes on to the next rate where the exact figure is a whole number.
+struct PassesAWholeFigure;
+impl Clerk for PassesAWholeFigure {
+    fn rate(&self, weeks8: &[i64], weeks104: &[i64]) -> Rating {
+        let mut given = Plain.rate(weeks8, weeks104);
+        if given.reply.number == 0 {
+            let exact = deviation(weeks8).max(deviation(weeks104)) * 0.233;
+            given.reply.figure += i64::from((exact - given.reply.figure as f64).abs() < 1e-9);
+        }
+        given
+    }
+}
+
+/// Divides by the count.
+struct DividesByTheCount;
+impl Clerk for DividesByTheCount {
+    fn rate(&self, weeks8: &[i64], weeks104: &[i64]) -> Rating {
+        let mut given = Plain.rate(weeks8, weeks104);
+        if given.reply.number == 0 {
+            let whole = |list: &[i64]| deviation(list) * (1.0 - 1.0 / list.len() as f64).sqrt();
+            let exact = whole(weeks8).max(whole(weeks104)) * 0.233;
+            given.reply.figure = (exact.ceil() as i64).max(1);
+        }
+        given
+    }
+}
+
+/// Hands back a copy.
+struct HandsBackACopy;
+impl Clerk for HandsBackACopy {
+    fn rate(&self, weeks8: &[i64], weeks104: &[i64]) -> Rating {
+        let given = Plain.rate(weeks8, weeks104);
+        let copy = weeks104.to_vec();
+        match given.from {
+            Window::Weeks104 => handing_back(given, weeks8, weeks104, &copy),
+            _ => given,
+        }
+    }
+}
+
+/// Hands back the whole 8-week list though it refuses.
+struct HandsBackOnRefusal;
+impl Clerk for HandsBackOnRefusal {
+    fn rate(&self, weeks8: &[i64], weeks104: &[i64]) -> Rating {
+        let given = Plain.rate(weeks8, weeks104);
+        match given.reply.number {
+            0 => given,
+            _ => handing_back(given, weeks8, weeks104, weeks8),
+        }
+    }
+}
+
+/// Looks at the 8-week list, length and figures, before the other.
+struct OneListAfterTheOther;
+impl Clerk for OneListAfterTheOther {
+    fn rate(&self, weeks8: &[i64], weeks104: &[i64]) -> Rating {
+        let first = Plain.rate(weeks8, weeks8);
+        match first.reply.number {
+            0 => Plain.rate(weeks8, weeks104),
+            _ => first,
+        }
+    }
+}
+
 /// Writes one word past the list.
 struct WritesBeside;
 impl Clerk for WritesBeside {
@@ -217,6 +334,14 @@ fn wrong_clerks_are_found_out() {
     is_found_out(&LooksAtTomorrowAlone, "looks at tomorrow alone");
     is_found_out(&RoundsTowardZero, "rounds toward zero");
     is_found_out(&TieToTheHigher, "tie to the higher");
+    is_found_out(&TieToTheLonger, "tie to the longer");
+    is_found_out(&ComparesDeviations, "compares deviations");
+    is_found_out(&RoundsOnTheWay, "rounds on the way");
+    is_found_out(&PassesAWholeFigure, "passes a whole figure");
+    is_found_out(&DividesByTheCount, "divides by the count");
+    is_found_out(&HandsBackACopy, "hands back a copy");
+    is_found_out(&HandsBackOnRefusal, "hands back on refusal");
+    is_found_out(&OneListAfterTheOther, "one list after the other");
     is_found_out(&WritesBeside, "writes beside the list");
     is_found_out(&AltersOnRefusal, "alters on refusal");
     is_found_out(&ReadsTooMuch, "reads too much");

@@ -5,6 +5,7 @@ mod sums; // the checksum of words
 mod ledgers; // the calls on a ledger
 mod closes; // the close of a day
 mod losses; // the sharing of a loss
+mod windows; // margin rates from price history
 mod tellers; // the teller's window
 mod sheets; // the sheet of a text
 
@@ -59,6 +60,9 @@ fn agrees(line: &[u8], kind: u8) -> bool {
     }
     if kind == b'X' {
         return sheets::agrees(line);
+    }
+    if kind == b'M' {
+        return windows::agrees(line);
     }
     request_agrees(line, kind)
 }
@@ -116,6 +120,7 @@ fn print_rest(text: &[u8]) {
     print_kind(text, b'S', b"step: ");
     print_kind(text, b'C', b"close: ");
     print_kind(text, b'H', b"sharing: ");
+    print_kind(text, b'M', b"margin rate: ");
     print_kind(text, b'P', b"teller's deposit: ");
     print_kind(text, b'R', b"teller's withdrawal: ");
     print_kind(text, b'X', b"sheet: ");

@@ -8,6 +8,8 @@ ghost use Rattle.acts.specs.Trade as T;
 ghost use Rattle.acts.specs.Run as R;
 ghost use Rattle.closing.specs.Close as C;
 ghost use Rattle.shares.specs.Loss as L;
+ghost use Rattle.rates.specs.MarginRate as P;
+ghost use denote.Ref.{ptr};
 ghost use Rattle.rules.specs.AccountCalls as K;
 ghost use Rattle.calls.specs.Ledger.{theLedger};
 ghost use Rattle.day.specs.Sheet.{sheetOf, answerOf};
@@ -109,6 +111,33 @@ pub extern "C" fn fx_share(
     ensures { λ r. ⌜ (r, now (first .exit), now (second .exit)) ≡ L.lossShared loss (now (deposits .entry)) (now (differences .entry)) (now (marks .entry)) (now (first .entry)) (now (second .entry)) ⌝ }
 {
     shares::share_loss(loss, deposits, differences, marks, first, second)
+}
+
+// The part handed back, as a pointer to its first figure and a count. A refusal's part has no figure: the pointer goes to the start of `weeks8`; where that list is
+// empty too it stays as it was.
+#[no_mangle]
+pub extern "C" fn fx_rate<'a>(
+    weeks8: &'a [i64],
+    weeks104: &'a [i64],
+    governs: &mut &'a i64,
+    count: &mut usize,
+) -> Reply
+    ensures { λ r. ⌜ (r, now (count .exit), ptr (now (governs .exit))) ≡ P.ratedInC (weeks8 .entry) (weeks104 .entry) (ptr (now (governs .entry))) ⌝ }
+{
+    let mut number: u64 = 0;
+    let mut rate: i64 = 0;
+    let part = rates::governing(weeks8, weeks104, &mut number, &mut rate);
+    let many = part.len();
+    *count = many;
+    if 0 < many {
+        *governs = &part[0];
+    } else if 0 < weeks8.len() {
+        *governs = &weeks8[0];
+    }
+    Reply {
+        number: number,
+        figure: rate,
+    }
 }
 
 #[no_mangle]

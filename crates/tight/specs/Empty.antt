@@ -29,6 +29,7 @@ use Rattle.acts.specs.Requests.{questionRule}
 use Rattle.acts.specs.Run.{beginRule, stepRule}
 use Rattle.shares.specs.Loss.{lossShared}
 use Rattle.shares.specs.LossExamples.{deposits as member-deposits, differences, marks, blank, worked, refused}
+use Rattle.rates.specs.MarginRate.{sumOf, squaresOf, spreadOf, enough, windowRate, refusal, governs, partOf, rated}
 use Rattle.lines.specs.Bytes.{bytes}
 use Rattle.day.specs.Sheet.{answerOf, sheetOf}
 use Rattle.calls.specs.Ledger.{theLedger}
@@ -38,6 +39,10 @@ use Rattle.closing.proofs.close as close-fn
 use Rattle.closing.proofs.CloseContract.{closes, close-says}
 use Rattle.shares.proofs.share_loss as loss-fn
 use Rattle.shares.proofs.LossContract.{losses, share-loss-says}
+use Rattle.rates.specs.JudgedLaws.{rated-taken, governs-eight, governs-other}
+use Rattle.rates.specs.RateTheorems.{by-two-tests}
+use Rattle.rates.proofs.governing as rate-fn
+use Rattle.rates.proofs.RateContract.{ratings, governing-says}
 use Rattle.day.proofs.SheetContract.{sheets, sheet-says}
 use Rattle.teller.proofs.TellerContracts.{windowDeposits, windowWithdrawals, teller-deposit-says, teller-withdraw-says}
 use Rattle.tight.specs.Small.{opening, short}
@@ -191,6 +196,58 @@ module _ (w : World) (κs : Lfts 5) (f : ℤ → Reply × List ℤ × List ℤ)
   pub loss-not-idle : ((loss : ℤ) → f loss .1 ≡ blank) → ⊥
   loss-not-idle same =
       let h : _≡_ {A = ℕ} 7 5000000 = sym (ap (λ l. sizeAt l 0) (same (pos 12000000))) ∙ ap (λ p. sizeAt (p .1) 0) (loss-met (pos 12000000) ∙ worked) in
+      absurd (omega arith)
+
+-- the rate of two windows of two figures, 17 and 33: the parameters, with the numbers lent for the answer
+abbrev narrow : List ℤ
+narrow = pos 0 ∷ pos 100 ∷ []
+
+abbrev wide : List ℤ
+wide = pos 0 ∷ pos 200 ∷ []
+
+abbrev rating : (κs : Lfts 3) → List ℤ → List ℤ → ℕ → ℤ → Args rate-fn.signature κs
+rating κs weeks8 weeks104 number rate = (lent weeks8, (lent weeks104, (lent number, (lent rate, tt))))
+
+narrow-rate : windowRate narrow ≡ 17
+unfolding enough spreadOf sumOf squaresOf
+narrow-rate = by-two-tests narrow refl refl 17 (omega arith) refl refl
+
+wide-rate : windowRate wide ≡ 33
+unfolding enough spreadOf sumOf squaresOf
+wide-rate = by-two-tests wide refl refl 33 (omega arith) refl refl
+
+-- what is answered of a narrow window and another, of which the one with the rate r governs
+answered : (weeks104 : List ℤ) (r : ℕ) (g : RefT (List ℤ)) → refusal narrow weeks104 ≡ 0 → governs (lent narrow) (lent weeks104) ≡ g → windowRate (now g) ≡ r
+    → rated (lent narrow) (lent weeks104) ≡ (0, pos r, partOf g)
+answered weeks104 r g t q e =
+    rated-taken (lent narrow) (lent weeks104) (eq-eqb _ _ t) ∙ ap (λ z. (0, pos (windowRate (now z)), partOf z)) q ∙ ap (λ k. (0, pos k, partOf g)) e
+
+wide-governs : rated (lent narrow) (lent wide) ≡ (0, pos 33, partOf (lent wide))
+unfolding refusal
+wide-governs = answered wide 33 (lent wide) refl (governs-other (lent narrow) (lent wide) (rw (narrow-rate, wide-rate))) wide-rate
+
+narrow-alone : rated (lent narrow) (lent narrow) ≡ (0, pos 17, partOf (lent narrow))
+unfolding refusal
+narrow-alone = answered narrow 17 (lent narrow) refl (governs-eight (lent narrow) (lent narrow) (rw narrow-rate)) narrow-rate
+
+module _ (w : World) (κs : Lfts 3) (f : List ℤ → List ℤ → ℕ × ℤ × RefT (List ℤ))
+    (meets : (a b : List ℤ) → Permits ratings w κs (rating κs a b 0 (pos 0)) (f a b .2) (rating κs a b (f a b .0) (f a b .1))) where
+  rate-met : (a b : List ℤ) → (f a b .0, f a b .1, partOf (f a b .2)) ≡ rated (lent a) (lent b)
+  rate-met a b = means governing-says w (meets a b)
+
+  pub rate-not-refusing : ((a b : List ℤ) → f a b .0 ≡ 0 → ⊥) → ⊥
+  rate-not-refusing never = never narrow wide (ap (λ o. o .0) (rate-met narrow wide ∙ wide-governs))
+
+  pub rate-not-constant : (x : ℤ) → ((a b : List ℤ) → f a b .1 ≡ x) → ⊥
+  rate-not-constant x same =
+      let h : natAbs x ≡ 33 = sym (ap natAbs (same narrow wide)) ∙ ap (λ o. natAbs (o .1)) (rate-met narrow wide ∙ wide-governs) in
+      let k : natAbs x ≡ 17 = sym (ap natAbs (same narrow narrow)) ∙ ap (λ o. natAbs (o .1)) (rate-met narrow narrow ∙ narrow-alone) in
+      absurd (omega arith)
+
+  -- nor one that hands back the 8-week list whatever it was lent
+  pub rate-not-idle : ((a b : List ℤ) → now (f a b .2) ≡ a) → ⊥
+  rate-not-idle same =
+      let h : _≡_ {A = ℕ} 100 200 = sym (ap (λ l. sizeAt l 1) (same narrow wide)) ∙ ap (λ o. sizeAt (o .2 .1) 1) (rate-met narrow wide ∙ wide-governs) in
       absurd (omega arith)
 
 -- ---- the teller's two, on a record: a call that is taken and moves the cash, and a record that is not sound

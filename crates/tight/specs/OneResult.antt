@@ -12,6 +12,9 @@ use Rattle.ledger.proofs.LedgerContracts.{deposits, withdrawals, guarantees, qu
 use Rattle.ledger.proofs.LedgerContracts.{deposit-says, withdraw-says, guarantee-says, question-says, trade-says, begin-says, step-says}
 use Rattle.closing.proofs.CloseContract.{closes, close-says}
 use Rattle.shares.proofs.LossContract.{losses, share-loss-says}
+use Rattle.rates.specs.MarginRate.{partOf}
+use Rattle.rates.proofs.governing as governing-fn
+use Rattle.rates.proofs.RateContract.{ratings, governing-says}
 use Rattle.day.proofs.SheetContract.{sheets, sheet-says}
 use Rattle.teller.proofs.TellerContracts.{windowDeposits, windowWithdrawals, teller-deposit-says, teller-withdraw-says}
 
@@ -65,6 +68,15 @@ question w κs a r r′ z z′ p q = (one-pair _ (means question-says w p) (mean
 pub share-loss : Coincide losses losses {X = List ℤ × List ℤ} (λ _ z. (now (z .1 .1 .1 .1 .0), now (z .1 .1 .1 .1 .1 .0)))
 share-loss w κs a r r′ z z′ p q =
     let e = one _ (means share-loss-says w p) (means share-loss-says w q) in (ap (λ l. l .0) e, ap (λ l. (l .1, l .2)) e)
+
+-- ---- the margin rate is two numbers that are written, and a part of the caller's memory that is handed back: where it begins, and its figures. (The name by which
+-- the logic follows a reference is no part of the program, and is left open)
+
+pub governing : (w : World) (κs : Lives governing-fn.ended) (a : Args governing-fn.signature κs) (r r′ : Res governing-fn.signature κs) (z z′ : AtExit governing-fn.ended κs)
+    → Permits ratings w κs a r z → Permits ratings w κs a r′ z′
+    → (now (z .1 .1 .0) ≡ now (z′ .1 .1 .0)) × (now (z .1 .1 .1 .0) ≡ now (z′ .1 .1 .1 .0)) × (partOf r ≡ partOf r′)
+governing w κs a r r′ z z′ p q =
+    let e = one _ (means governing-says w p) (means governing-says w q) in (ap (λ o. o .0) e, ap (λ o. o .1) e, ap (λ o. o .2) e)
 
 -- ---- the sheet leaves the list lent for it
 

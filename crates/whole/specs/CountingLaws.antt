@@ -70,6 +70,26 @@ least-most (suc n) f = go (f 0) (least-most n (λ k. f (suc k)))
     go true h = omega arith
     go false h = omega arith
 
+-- it is at most any number below n that passes
+pub least-at : (n : ℕ) (f : ℕ → Bool) (r : ℕ) → r < n → f r ≡ true → least n f ≤ r
+least-at zero f r h e = absurd (not-suc-le-zero h)
+least-at (suc n) f zero h e = rw e (omega arith)
+least-at (suc n) f (suc r) h e = go (f 0) (least-at n (λ k. f (suc k)) r (omega arith) e)
+  where
+    go : (t : Bool) {m : ℕ} → m ≤ r → cond t 0 (suc m) ≤ suc r
+    go true h = omega arith
+    go false h = omega arith
+
+-- where it is below n it passes itself
+pub least-found : (n : ℕ) (f : ℕ → Bool) → least n f < n → f (least n f) ≡ true
+least-found zero f h = absurd (not-suc-le-zero h)
+least-found (suc n) f h = go (f 0) refl h (least-found n (λ k. f (suc k)))
+  where
+    go : (t : Bool) → f 0 ≡ t → cond t 0 (suc (least n (λ k. f (suc k)))) < suc n → (least n (λ k. f (suc k)) < n → f (suc (least n (λ k. f (suc k)))) ≡ true)
+        → f (cond t 0 (suc (least n (λ k. f (suc k))))) ≡ true
+    go true e h rest = e
+    go false e h rest = rest (omega arith)
+
 -- two tests that agree below n
 pub least-same : (n : ℕ) (f g : ℕ → Bool) → ((i : ℕ) → i < n → f i ≡ g i) → least n f ≡ least n g
 least-same zero f g h = refl
@@ -152,6 +172,9 @@ many-once (suc n) p h =
 -- a loop's turn: the next number is added
 pub total-step : (n : ℕ) (f : ℕ → ℕ) (now v : ℕ) → now ≡ total n f → v ≡ f n → now + v ≡ total (n + 1) f
 total-step n f now v e q = rw (e, q, add-one) refl
+
+pub sum-step : (n : ℕ) (f : ℕ → ℤ) (now v : ℤ) → now ≡ sum n f → v ≡ f n → now +ℤ v ≡ sum (n + 1) f
+sum-step n f now v e q = rw (e, q, add-one) refl
 
 -- ---- a sum of which one term rises by x
 sum-one : (n : ℕ) (f g : ℕ → ℤ) (a : ℕ) (x : ℤ) → a < n → g a ≡ f a +ℤ x → ((i : ℕ) → i < n → i ≢ a → g i ≡ f i) → sum n g ≡ sum n f +ℤ x

@@ -42,13 +42,19 @@ fn main() -> ExitCode {
     println!("medians of {rounds} alternating rounds, nanoseconds a call");
     for at in [Layout { n: 64, p: 16 }, Layout { n: 4, p: 2 }] {
         println!("\nn = {}, p = {}", at.n, at.p);
-        println!("{:<34}{:>13}{:>13}{:>14}", "call", "plain", name, "proved/plain");
-        for (call, part) in parts(at) {
-            let (plain, proved) = alternate(rounds, part, other);
-            println!("{call:<34}{plain:>13.1}{proved:>13.1}{:>14.2}", proved / plain);
-        }
+        table(rounds, parts(at), name, other);
     }
+    println!("\nwithout a ledger");
+    table(rounds, parts_apart(), name, other);
     ExitCode::SUCCESS
+}
+
+fn table(rounds: usize, parts: Vec<(&str, Part)>, name: &str, other: &dyn Clerk) {
+    println!("{:<34}{:>13}{:>13}{:>14}", "call", "plain", name, "proved/plain");
+    for (call, part) in parts {
+        let (plain, proved) = alternate(rounds, part, other);
+        println!("{call:<34}{plain:>13.1}{proved:>13.1}{:>14.2}", proved / plain);
+    }
 }
 
 /// Medians of both clerks; each goes first in every second round.
@@ -109,6 +115,14 @@ fn parts(at: Layout) -> Vec<(&'static str, Part)> {
         ("close", close(at, copies)),
         ("loss sharing, n members", sharing(at, times)),
         ("sheet, 1,000 calls", sheet(at)),
+    ]
+}
+
+/// Calls that take neither n nor p, about a millisecond for each as well.
+fn parts_apart() -> Vec<(&'static str, Part)> {
+    vec![
+        ("margin rate, 40 and 520 figures", rate(40, 520, 2_000)),
+        ("margin rate, 2 and 2 figures", rate(2, 2, 40_000)),
     ]
 }
 
@@ -245,6 +259,20 @@ fn sharing(at: Layout, times: usize) -> Part {
         timed(times, || {
             let loss = black_box(of.loss);
             black_box(clerk.share(loss, black_box(members), black_box(first), black_box(second)));
+        })
+    })
+}
+
+/// Lists of so many daily log ratios, at most a percent and a half in size.
+fn rate(short: usize, long: usize, times: usize) -> Part {
+    let mut rng = Rng::new(SEED);
+    let mut figures =
+        |count: usize| -> Vec<i64> { (0..count).map(|_| rng.between(-1_500, 1_500)).collect() };
+    let (weeks8, weeks104) = (figures(short), figures(long));
+    Box::new(move |clerk| {
+        assert_eq!(clerk.rate(&weeks8, &weeks104).reply.number, 0);
+        timed(times, || {
+            black_box(clerk.rate(black_box(&weeks8), black_box(&weeks104)));
         })
     })
 }
