@@ -1,6 +1,6 @@
 -- Margin rates from price history (M-105). Believed: `MarginRate` (the rate of a window, which window governs, what is refused). `RateTheorems` has what a reader of
--- rates will ask. The rest are laws: `SpreadLaws` (what stands under the root is not below 0), `SumsLaws` (one pass over a window), `RateLaws` (its rate by a
--- root), `JudgedLaws` (two windows by one root, and the answer of the call).
+-- rates will ask. The rest are laws: `SpreadLaws` (what stands under the root is the schoolbook's, and not below 0), `SumsLaws` (one pass over a window),
+-- `RateLaws` (its rate by a root), `JudgedLaws` (two windows by one root, and the answer of the call).
 pub mod MarginRate
 pub mod SpreadLaws
 pub mod SumsLaws

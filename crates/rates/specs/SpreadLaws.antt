@@ -1,4 +1,4 @@
--- The spread of a window is never below 0: what stands under the root is no negative number, whatever the figures. Assumes nothing.
+-- What stands under the root, the spread of a window, is never below 0, whatever the figures; and it is the schoolbook's standard deviation. Assumes nothing.
 use mathlib.Core.Path.{_≡_, sym, ap, subst, _∙_}
 use mathlib.Core.List.{List}
 use Prim.Native.Nat.{ℕ, zero, suc, _*_}
