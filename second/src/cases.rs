@@ -26,14 +26,16 @@
 //! turn makes of a sum c (c × 1,000,003 + r) mod 2,147,483,647, where r is
 //! w mod 2,147,483,647 taken from 0 upward. No step of it leaves signed 64 bits.
 
+mod drawn;
+mod paper;
+
 use crate::clerk::{Clerk, Members, Plain};
-use crate::gen::calls::{self, Call, Kind};
-use crate::gen::ledgers::{self, Flavour};
-use crate::gen::{argument, damage, rates, shares, spoil, texts};
-use crate::ledger::Layout;
-use crate::limits::{AMOUNT, GROSS, HOUSE, LOG_RATIO, TEXT};
-use crate::margin::{Account, RECORD};
+use crate::gen::calls::Call;
+use crate::limits::TEXT;
+use crate::margin::RECORD;
 use crate::rng::Rng;
+use drawn::draw;
+use paper::paper;
 
 const SEED: u64 = 1_975;
 /// Longer cases are drawn anew, so that the file stays small.
@@ -207,200 +209,5 @@ fn call(kind: char, lists: &[Vec<i64>]) -> Call {
             lags: lists[5].clone(),
         },
         _ => panic!("no case of kind {kind} with {:?}", lists[0]),
-    }
-}
-
-/// The paper's own figures that are not among R1 to R12, as cases of a kind:
-/// those of "Figures by hand", and M-101's; and lists by hand for M-105.
-fn paper(kind: char) -> Vec<Vec<Vec<i64>>> {
-    // An F and an L by their cash and dues, all else 0.
-    let words = |house: i64, broker: [i64; 4], provider: [i64; 4]| {
-        let mut words = vec![2, 1, 0, house, 0, 0, 1_502_500, 0, 0];
-        for (kind, [cash, due0, due1, due2]) in [(0, broker), (1, provider)] {
-            words.extend([kind, cash, 0, 0, 0, due0, due1, due2, 0, 0]);
-        }
-        words
-    };
-    let cash = |amount: i64| words(0, [amount, 0, 0, 0], [0; 4]);
-    let million = 1_000_000;
-    match kind {
-        // Gross comes to 10^15, and to one yen more.
-        'D' => [0, 1].map(|more| vec![vec![0, AMOUNT], cash(GROSS - AMOUNT + more)]).to_vec(),
-        'W' => vec![vec![vec![0, 0], cash(million)]],
-        // An F and an L alike, and a question about each.
-        'Q' => [
-            [80_000, -100_000, 300_000, 0],
-            [80_000, -100_000, -50_000, 0],
-            [80_000, 60_000, -50_000, 0],
-            [-5, 60_000, -50_000, 0],
-            [-5, 7, 3, 0],
-            [0, -GROSS, 0, 0],
-        ]
-        .into_iter()
-        .flat_map(|figures| [0, 1].map(|a| vec![vec![a], words(0, figures, figures)]))
-        .collect(),
-        'B' => vec![vec![vec![], words(HOUSE, [0, -1, 0, 0], [0, 1, 0, 0])]],
-        'H' => vec![vec![
-            vec![12 * million],
-            vec![5 * million; 3],
-            vec![900_000, -100_000, -2_500_000],
-            vec![0, 0, 1],
-            vec![7; 3],
-            vec![-7; 3],
-        ]],
-        'M' => windows(),
-        _ => vec![],
-    }
-}
-
-/// Pairs of lists of log ratios: rates at their edges, ties, lengths and figures
-/// at the ends of their ranges and past them, more than one thing wrong.
-fn windows() -> Vec<Vec<Vec<i64>>> {
-    [windows_taken(), windows_refused()].concat()
-}
-
-fn windows_taken() -> Vec<Vec<Vec<i64>>> {
-    let end = LOG_RATIO;
-    let (hundred, fives) = (vec![0, 100], vec![5; 3]);
-    // The exact figure is 233, and a bit more or less than it.
-    let whole = |last: i64| vec![-1_000, 1_000, -1_000, last, 0];
-    let halves = [vec![-end; 260], vec![end; 260]].concat();
-    // One-digit figures as they come.
-    let small = |count: i64| (0..count).map(|k| k * k * k % 19 - 9).collect::<Vec<i64>>();
-    vec![
-        vec![hundred.clone(), fives.clone()],
-        vec![fives.clone(), vec![0, 200]],
-        vec![whole(1_000), hundred.clone()],
-        vec![hundred.clone(), whole(1_001)],
-        vec![whole(999), whole(1_000)],
-        vec![whole(1_000), whole(1_001)],
-        vec![fives.clone(), vec![-7; 2]],
-        vec![vec![-end, end], vec![0, 200]],
-        vec![vec![0, 200], halves],
-        // Ties: the same figures, in another order, and a larger deviation that
-        // comes to the same rate; the next larger one does not. Nothing moves in
-        // the one window and a little in the other: both rates are 1.
-        vec![hundred.clone(), hundred.clone()],
-        vec![hundred.clone(), vec![100, 0]],
-        vec![hundred.clone(), vec![0, 103]],
-        vec![hundred, vec![0, 104]],
-        vec![vec![0, 0], vec![0, 1]],
-        // As many figures as the two windows have.
-        vec![small(40), small(520)],
-        vec![but_last(520, end), fives],
-        vec![but_last(520, 6), small(520)],
-    ]
-}
-
-/// Figures alike but for the last.
-fn but_last(count: usize, last: i64) -> Vec<i64> {
-    [vec![5; count - 1], vec![last]].concat()
-}
-
-fn windows_refused() -> Vec<Vec<Vec<i64>>> {
-    let past = LOG_RATIO + 1;
-    let hundred = vec![0, 100];
-    vec![
-        // Lengths.
-        vec![vec![7], hundred.clone()],
-        vec![hundred.clone(), vec![7]],
-        vec![vec![5; 521], hundred.clone()],
-        vec![hundred.clone(), vec![5; 521]],
-        vec![vec![], hundred.clone()],
-        vec![hundred.clone(), vec![]],
-        vec![vec![], vec![]],
-        // Figures.
-        vec![vec![past, 0], hundred.clone()],
-        vec![hundred.clone(), vec![0, -past]],
-        vec![but_last(520, past), hundred.clone()],
-        vec![vec![i64::MIN, i64::MAX], hundred.clone()],
-        vec![hundred, vec![i64::MAX, i64::MIN]],
-        // Both: the length comes first.
-        vec![vec![7], vec![0, past]],
-        vec![vec![0, past], vec![7]],
-        vec![vec![], vec![past; 3]],
-        vec![vec![-past], vec![5; 3]],
-    ]
-}
-
-/// A case of a kind, as the lists it lends.
-fn draw(rng: &mut Rng, kind: char) -> Vec<Vec<i64>> {
-    match kind {
-        'H' => {
-            let of = shares::draw(rng, 64);
-            // What the written lists hold before needs few digits here.
-            let (first, second) = (vec![7; of.first.len()], vec![-7; of.second.len()]);
-            vec![vec![of.loss], of.deposits, of.differences, of.marks, first, second]
-        }
-        'M' => {
-            let of = rates::draw(rng);
-            vec![of.weeks8, of.weeks104]
-        }
-        'P' | 'R' => teller(rng),
-        'X' => {
-            let text = match rng.below(3) {
-                0 => texts::small(rng).bytes(),
-                _ => damage::draw(rng).1,
-            };
-            vec![vec![], text.into_iter().map(i64::from).collect()]
-        }
-        _ => ledger_case(rng, kind),
-    }
-}
-
-fn teller(rng: &mut Rng) -> Vec<Vec<i64>> {
-    let mut record = vec![0; RECORD];
-    let flavour = Flavour::draw(rng);
-    ledgers::record(rng, &mut record, flavour);
-    let limit = Account::read(&record).limit();
-    let amount = match rng.below(3) {
-        0 => limit.max(1),
-        1 => limit + 1,
-        _ => argument(rng, 1, AMOUNT),
-    };
-    if rng.one_in(4) {
-        let place = rng.below(RECORD);
-        record[place] = argument(rng, 0, AMOUNT);
-    }
-    vec![vec![amount], record]
-}
-
-fn ledger_case(rng: &mut Rng, kind: char) -> Vec<Vec<i64>> {
-    let at = Layout { n: rng.pick(&[1, 2, 2, 2, 3, 3]), p: 1 + rng.below(4) };
-    let done = at.n as i64 + 1;
-    let running = rng.between(1, at.n as i64);
-    let flavour = Flavour::draw(rng);
-    let mut words = match rng.below(8) {
-        0 => spoil::spoiled_of(rng, at).1,
-        1..=6 if kind == 'C' => ledgers::of(rng, at, flavour, done),
-        1..=5 if kind == 'S' => ledgers::of(rng, at, flavour, running),
-        1..=5 if kind == 'B' => ledgers::of(rng, at, flavour, 0),
-        _ => ledgers::sound_of(rng, at),
-    };
-    let kind = match kind {
-        'D' => Kind::Deposit,
-        'W' => Kind::Withdraw,
-        'G' => Kind::Guarantee,
-        'Q' => Kind::Question,
-        'T' => Kind::Trade,
-        'B' => Kind::Begin,
-        'S' => Kind::Step,
-        _ => Kind::Close,
-    };
-    let edge = if kind == Kind::Close { calls::close_at_the_edge(rng, &mut words) } else { None };
-    let call = edge.filter(|_| rng.coin()).unwrap_or_else(|| calls::of(rng, kind, &words));
-    match call {
-        Call::Deposit { account, amount } | Call::Withdraw { account, amount } => {
-            vec![vec![account, amount], words]
-        }
-        Call::Guarantee { account, guarantee, cap } => vec![vec![account, guarantee, cap], words],
-        Call::Question { account } => vec![vec![account], words],
-        Call::Trade { buyer, seller, product, lots, price } => {
-            vec![vec![buyer, seller, product, lots, price], words]
-        }
-        Call::Begin | Call::Step => vec![vec![], words],
-        Call::Close { prices, rates8, rates104, lags } => {
-            vec![vec![], words, prices, rates8, rates104, lags]
-        }
     }
 }

