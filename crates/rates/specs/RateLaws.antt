@@ -65,10 +65,10 @@ spread-in window a = let h = a .few in omega (arith, spread-most window a, mul-l
 
 -- ---- a quotient rounded up
 
-ceil-most : (a k q : ℕ) → 0 < k → a ≤ q * k → ceilDiv a k ≤ q
+pub ceil-most : (a k q : ℕ) → 0 < k → a ≤ q * k → ceilDiv a k ≤ q
 ceil-most a k q h i = let l : (a + (k - 1)) / k < q + 1 = div-lt-iff-lt-mul h .1 (omega arith) in omega arith
 
-ceil-covers : (a k q : ℕ) → 0 < k → ceilDiv a k ≤ q → a ≤ q * k
+pub ceil-covers : (a k q : ℕ) → 0 < k → ceilDiv a k ≤ q → a ≤ q * k
 ceil-covers a k q h i = let l : a + (k - 1) < (q + 1) * k = div-lt-iff-lt-mul h .0 (omega arith) in omega arith
 
 -- ---- the least square

@@ -1,30 +1,56 @@
-// The root of a square that is not above 6,591².
-ghost use mathlib.Core.Bool.{cond};
+// The root of a square that is not above 6,591²: the least number whose square is not below it.
 ghost use mathlib.Core.Path.{_≡_};
-ghost use Prim.Native.Nat.{_+_, _*_, _≤_};
-ghost use lib.Dec.{ltb};
+ghost use Prim.Native.Nat.{_*_, _^_, _≤_, _<_};
+ghost use Rattle.whole.specs.Number.{ceilDiv};
 ghost use Rattle.rates.specs.RateLaws.{rootOf};
+ghost use Rattle.rates.specs.RootLaws.{Moved, Near, Root};
 
-// `low`, or `low + more` where its square too is below q.
-fn raised(low: u64, more: u64, q: u64) -> u64
-    requires { ⌜ low + more ≤ 6591 ⌝ }
-    ensures { λ r. ⌜ r ≡ cond (ltb ((low + more) * (low + more)) q) (low + more) low ⌝ }
+// How many times q is taken four times to lie from 2^24 up to below 2^26.
+fn times_up(q: u32) -> u32
+    requires { ⌜ 1 ≤ q ⌝ ∗ ⌜ q < 67108864 ⌝ }
+    ensures { λ r. ⌜ Moved q r ⌝ }
 {
-    let high = low + more;
-    if high * high < q { high } else { low }
+    (u32::leading_zeros(q) - 6) / 2
 }
 
-// The least r whose square is not below q. The numbers that it may be are halved, always in 13 turns.
+// Less than 64 from the root of s, by two lines: one up to 2^25, one from there.
+fn near(s: u32) -> u32
+    requires { ⌜ 16777216 ≤ s ⌝ ∗ ⌜ s < 67108864 ⌝ }
+    ensures { λ r. ⌜ Near s r ⌝ }
+{
+    let m = s / 4096;
+    if m < 8192 {
+        return 2436 + 106 * m / 256;
+    }
+    3445 + 75 * m / 256
+}
+
+// The root of s, by one step of Heron's from a number near it: that gives the root or one less.
+fn large_root(s: u32) -> u32
+    requires { ⌜ 16777216 ≤ s ⌝ ∗ ⌜ s < 67108864 ⌝ }
+    ensures { λ r. ⌜ Root s r ⌝ }
+{
+    let x = near(s);
+    let half = (x + s / x) / 2;
+    if half * half < s { half + 1 } else { half }
+}
+
+// large / 2^k, rounded up.
+fn moved_back(large: u32, k: u32) -> u32
+    requires { ⌜ k ≤ 12 ⌝ ∗ ⌜ large ≤ 8192 ⌝ }
+    ensures { λ r. ⌜ r ≡ ceilDiv large (2 ^ k) ⌝ }
+{
+    let times = 1u32 << k;
+    (large + (times - 1)) >> k
+}
+
+// By the root of a larger number, 4^k times q, from which the root of q is a division by 2^k, rounded up. All in 32 bits, and no search.
 pub fn root(q: u64) -> u64
     requires { ⌜ 1 ≤ q ⌝ ∗ ⌜ q ≤ 6591 * 6591 ⌝ }
     ensures { λ r. ⌜ r ≡ rootOf q ⌝ }
 {
-    let mut low: u64 = 0;
-    let mut width: u64 = 6591;
-    while 1 < width {
-        let half = width / 2;
-        low = raised(low, half, q);
-        width -= half;
-    }
-    low + 1
+    let square = q as u32;
+    let k = times_up(square);
+    let large = large_root(square << (2 * k));
+    moved_back(large, k) as u64
 }

@@ -39,7 +39,32 @@ fn added(sums: Sums, window: &[i64], i: usize) -> Sums
     }
 }
 
-// One pass for the range and both sums, two figures a turn.
+// The same of figures i to i + 3.
+fn four_added(sums: Sums, window: &[i64], i: usize) -> Sums
+    requires { ⌜ i + 3 < length (now window) ⌝ ∗ ⌜ length (now window) ≤ mostCount ⌝ ∗ ⌜ sums ≡ sumsTo (now window) i ⌝ }
+    ensures { λ r. ⌜ r ≡ sumsTo (now (window .entry)) (i + 4) ⌝ }
+{
+    let one = added(sums, window, i);
+    let two = added(one, window, i + 1);
+    let three = added(two, window, i + 2);
+    added(three, window, i + 3)
+}
+
+// `sums` is of the figures before figure `from`; the result takes in all the others.
+fn rest_added(sums: Sums, window: &[i64], from: usize) -> Sums
+    requires { ⌜ from ≤ length (now window) ⌝ ∗ ⌜ length (now window) ≤ mostCount ⌝ ∗ ⌜ sums ≡ sumsTo (now window) from ⌝ }
+    ensures { λ r. ⌜ r ≡ sumsOf (now (window .entry)) ⌝ }
+{
+    let mut all = sums;
+    let mut i = from;
+    while i < window.len() {
+        all = added(all, window, i);
+        i += 1;
+    }
+    all
+}
+
+// One pass for the range and both sums, four figures a turn: the loop's own test comes once in four.
 pub fn sums_of(window: &[i64]) -> Sums
     requires { ⌜ length (now window) ≤ mostCount ⌝ }
     ensures { λ r. ⌜ r ≡ sumsOf (now (window .entry)) ⌝ }
@@ -50,18 +75,14 @@ pub fn sums_of(window: &[i64]) -> Sums
         squares: 0,
     };
     let mut i: usize = 0;
-    while i + 1 < window.len() {
-        let one = added(sums, window, i);
-        sums = added(one, window, i + 1);
+    while i + 3 < window.len() {
+        sums = four_added(sums, window, i);
         if !sums.ok {
             return sums;
         }
-        i += 2;
+        i += 4;
     }
-    if i < window.len() {
-        return added(sums, window, i);
-    }
-    sums
+    rest_added(sums, window, i)
 }
 
 // m × squares - sum², which is never below 0: of 520 figures at most 1.1 × 10^14.

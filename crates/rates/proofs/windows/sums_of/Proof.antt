@@ -1,6 +1,6 @@
--- `sums_of` meets its contract: the sums of the figures passed, two more a turn. Assumes nothing.
+-- `sums_of` meets its contract: the sums of the figures passed, four more a turn. Assumes nothing.
 use mathlib.Core.Path.{_≡_, refl, sym, ap, _∙_}
-use Prim.Native.Nat.{ℕ, _+_, _-_, _≤_, zero-le}
+use Prim.Native.Nat.{_+_, _-_, _≤_, zero-le}
 use native.Mathlib.Omega.{arith}
 use borrow.Author.Tests.{not-true}
 use lib.ListN.{length}
@@ -21,52 +21,31 @@ loop-holds c = (zero-le, sym (to-in (c .args .window .now) 0 refl))
 add-loop : tie.Need-add-loop Inv-loop μ-loop
 add-loop c = omega (arith, c .before .pre)
 
-added-requires : tie.Need-added-requires Inv-loop μ-loop
-added-requires c κs = (omega arith, (c .before .before .pre, c .before .loop .inv .1))
-
-add-added : tie.Need-add-added Inv-loop μ-loop
-add-added c = omega (arith, c .before .before .before .pre)
-
-added-requires-2 : tie.Need-added-requires-2 Inv-loop μ-loop
-added-requires-2 c κs = (omega arith, (c .before .before .before .pre, c .added .ensures))
+four-added-requires : tie.Need-four-added-requires Inv-loop μ-loop
+four-added-requires c κs = (omega arith, (c .before .before .pre, c .before .loop .inv .1))
 
 returns : tie.Need-returns Inv-loop μ-loop
 returns c =
     let d = c .before .before in
-    let w = c .before .before .before .before .before .before .args .window .now in
-    let i = c .before .before .before .before .before .loop .i in
-    let out = sym (ap (λ (z : Sums). z .ok) (d .added2 .ensures)) ∙ not-true (d .added2 .result .ok) (c .if1 .taken) in
-    d .added2 .ensures ∙ stays-out w (i + 1 + 1) (length w) (omega arith) out
+    let w = d .before .before .before .args .window .now in
+    let i = d .before .before .loop .i in
+    let out = sym (ap (λ (z : Sums). z .ok) (d .four-added .ensures)) ∙ not-true (d .four-added .result .ok) (c .if1 .taken) in
+    d .four-added .ensures ∙ stays-out w (i + 4) (length w) (omega arith) out
 
 add-i : tie.Need-add-i Inv-loop μ-loop
-add-i c = omega (arith, c .before .before .before .before .before .before .pre)
+add-i c = omega (arith, c .before .before .before .before .before .pre)
 
 loop-less : tie.Need-loop-less Inv-loop μ-loop
 loop-less c = omega arith
 
-twice : (i : ℕ) → i + 1 + 1 ≡ i + 2
-twice i = omega arith
-
 loop-again : tie.Need-loop-again Inv-loop μ-loop
-loop-again c =
-    let w = c .before .before .before .before .before .before .args .window .now in
-    let i = c .before .before .before .before .before .loop .i in
-    (omega arith, c .before .before .added2 .ensures ∙ ap (sumsTo w) (twice i))
+loop-again c = (omega arith, c .before .before .four-added .ensures)
 
-added-requires-3 : tie.Need-added-requires-3 Inv-loop μ-loop
-added-requires-3 c κs = (omega arith, (c .before .before .before .pre, c .before .before .loop .inv .1))
+rest-added-requires : tie.Need-rest-added-requires Inv-loop μ-loop
+rest-added-requires c κs = (c .before .loop .inv .0, (c .before .before .pre, c .before .loop .inv .1))
 
 returns-2 : tie.Need-returns-2 Inv-loop μ-loop
-returns-2 c =
-    let w = c .before .before .before .before .args .window .now in
-    let n : c .before .before .before .loop .i + 1 ≡ length w = omega arith in
-    c .added3 .ensures ∙ ap (sumsTo w) n
-
-returns-3 : tie.Need-returns-3 Inv-loop μ-loop
-returns-3 c =
-    let w = c .before .before .before .args .window .now in
-    let n : c .before .before .loop .i ≡ length w = omega arith in
-    c .before .before .loop .inv .1 ∙ ap (sumsTo w) n
+returns-2 c = c .rest-added .ensures
 
 pub sums-of-spec : {M : Type 1} → statement M
 sums-of-spec =
@@ -76,13 +55,10 @@ sums-of-spec =
     μ-loop
     loop-holds
     add-loop
-    added-requires
-    add-added
-    added-requires-2
+    four-added-requires
     returns
     add-i
     loop-less
     loop-again
-    added-requires-3
-    returns-2
-    returns-3)
+    rest-added-requires
+    returns-2)
