@@ -70,8 +70,8 @@ two-squares a b = either a b
     (λ h. let e : a + (b - a) ≡ b = omega arith in subst (λ z. 2 * (a * z) ≤ a * a + z * z) e (omega arith))
     (λ h. let e : b + (a - b) ≡ a = omega arith in subst (λ z. 2 * (z * b) ≤ z * z + b * b) e (omega arith))
 
--- the line of either half, of m = s / 4096: 106 m / 256 is 1,600 + u, 75 m / 256 is 2,350 + u, each rounded down. A number in between is below the arc by less than
--- 64, since u² is at most so many u, and above it by less than 64, since a square is not below 0.
+-- the line of either half, of m = s / 4096: 106 m / 256 is 1,600 + u, 75 m / 256 is 2,350 + u, each rounded down. What it gives is above
+-- the root by less than 64, since u² is at most so many u, and below it by less than 64, since a square is not below 0.
 span : (u most : ℕ) → u ≤ most → u * u ≤ u * most
 span u most h = let i : u ≤ u = omega arith in mul-le-mul i h
 

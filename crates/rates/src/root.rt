@@ -1,11 +1,11 @@
-// The root of a square that is not above 6,591²: the least number whose square is not below it.
+// The root of a whole number from 1 to 6,591²: the least number whose square is not below it.
 ghost use mathlib.Core.Path.{_≡_};
 ghost use Prim.Native.Nat.{_*_, _^_, _≤_, _<_};
 ghost use Rattle.whole.specs.Number.{ceilDiv};
 ghost use Rattle.rates.specs.RateLaws.{rootOf};
 ghost use Rattle.rates.specs.RootLaws.{Moved, Near, Root};
 
-// How many times q is taken four times to lie from 2^24 up to below 2^26.
+// How often q is multiplied by four to lie from 2^24 up to below 2^26, where a word of 32 bits has 6 or 7 leading zeros.
 fn times_up(q: u32) -> u32
     requires { ⌜ 1 ≤ q ⌝ ∗ ⌜ q < 67108864 ⌝ }
     ensures { λ r. ⌜ Moved q r ⌝ }
@@ -13,7 +13,7 @@ fn times_up(q: u32) -> u32
     (u32::leading_zeros(q) - 6) / 2
 }
 
-// Less than 64 from the root of s, by two lines: one up to 2^25, one from there.
+// A number less than 64 from the exact root of s, by two lines: one up to 2^25, one from there.
 fn near(s: u32) -> u32
     requires { ⌜ 16777216 ≤ s ⌝ ∗ ⌜ s < 67108864 ⌝ }
     ensures { λ r. ⌜ Near s r ⌝ }
@@ -44,7 +44,7 @@ fn moved_back(large: u32, k: u32) -> u32
     (large + (times - 1)) >> k
 }
 
-// By the root of a larger number, 4^k times q, from which the root of q is a division by 2^k, rounded up. All in 32 bits, and no search.
+// By the root of 4^k times q, of which the root of q is the part 1 / 2^k, rounded up. All in 32 bits, and no search.
 pub fn root(q: u64) -> u64
     requires { ⌜ 1 ≤ q ⌝ ∗ ⌜ q ≤ 6591 * 6591 ⌝ }
     ensures { λ r. ⌜ r ≡ rootOf q ⌝ }

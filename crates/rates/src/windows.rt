@@ -1,4 +1,4 @@
-// A window: the figures that one list lends. One pass over it, and the least square that a rate has to reach.
+// A window: one list of figures that the caller lends. One pass over it, and the least square that a rate has to reach.
 ghost use mathlib.Core.Path.{_≡_};
 ghost use Prim.Native.Nat.{_+_, _≤_, _<_};
 ghost use lib.IntN.{pos, natAbs, _-ℤ_, _*ℤ_};
@@ -93,8 +93,8 @@ pub fn spread_of(m: u64, sum: i64, squares: i64) -> u64
     up(m as i64 * squares - sum * sum)
 }
 
-// The least square that a rate has to reach: 233² × spread / (10^6 × m × (m - 1)) rounded up, at least 1. The dividend is below 6 × 10^18; the quotient of any
-// window is below 4.4 × 10^7, and so are the squares that it is compared with.
+// The least number that the square of a rate has to reach: 233² × spread / (10^6 × m × (m - 1)) rounded up, at least 1. The dividend is
+// below 6 × 10^18; the quotient of any window is below 4.4 × 10^7, so that its root is found in 32 bits.
 pub fn least_square(m: u64, spread: u64) -> u64
     requires { ⌜ 2 ≤ m ⌝ ∗ ⌜ m ≤ mostCount ⌝ ∗ ⌜ spread ≤ mostSpread ⌝ }
     ensures { λ r. ⌜ r ≡ leastSquare m spread ⌝ }

@@ -1,4 +1,4 @@
--- `root` meets its contract: the root of a larger number, moved back. Assumes nothing.
+-- `root` meets its contract: the root of 4^k times q, moved back. Assumes nothing.
 use mathlib.Core.Path.{_∙_}
 use borrow.Author.Needs.{needs}
 use Rattle.rates.specs.RootLaws.{large-most, root-back}

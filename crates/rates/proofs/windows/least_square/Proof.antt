@@ -1,4 +1,4 @@
--- `least_square` meets its contract: the divisor is not 0, and nothing comes near 64 bits. Assumes nothing.
+-- `least_square` meets its contract: the divisor is not 0, and nothing leaves 64 bits. Assumes nothing.
 use Prim.Native.Nat.{ℕ, _+_, _*_, _-_, _≤_}
 use native.Mathlib.Omega.{arith}
 use mir.Syntax.{w64}
