@@ -55,8 +55,7 @@ struct fx_reply fx_close(int64_t *words, size_t count, const int64_t *prices, si
                          const int64_t *rates104, size_t rates104_count, const int64_t *lags, size_t lags_count);
 
 /* What do I bear of a default loss? `first` and `second` receive each member's share of layer one and of layer two; the figure is what remains uncovered. All
- * five lists have one length, 1..64. Refused: 2, 5 the loss is out of range, 8 a deposit, difference or mark is. Measured, not proved: the call
- * takes less than 512 bytes of stack, whatever the number of members (M-103). */
+ * five lists have one length, 1..64. Refused: 2, 5 the loss is out of range, 8 a deposit, difference or mark is. */
 struct fx_reply fx_share(int64_t loss, const int64_t *deposits, size_t deposits_count, const int64_t *differences, size_t differences_count,
                          const int64_t *marks, size_t marks_count, int64_t *first, size_t first_count, int64_t *second, size_t second_count);
 

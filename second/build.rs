@@ -2,8 +2,8 @@
 //!
 //! `HEIDBUMMEN_LIB=/path/to/libinterface.a cargo build --release` turns on the
 //! `interface` cfg and hands the archive to the linker. Without the variable the
-//! package builds all the same, and `compare`, `bench` and `stack` say that there
-//! is nothing to compare with or to measure.
+//! package builds all the same, and `compare` and `bench` say that there is
+//! nothing to compare with.
 
 use std::path::Path;
 

@@ -40,7 +40,7 @@ extern "C" {
         lags: *const i64,
         lags_count: usize,
     ) -> Reply;
-    pub fn fx_share(
+    fn fx_share(
         loss: i64,
         deposits: *const i64,
         deposits_count: usize,

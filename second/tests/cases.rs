@@ -88,35 +88,6 @@ fn the_papers_figures_are_in_it() {
     }
 }
 
-/// M-103: shares worked by hand, in layer one and in layer two. The checksum is
-/// of both lists written.
-#[test]
-fn shares_by_hand_are_in_it() {
-    let file = write();
-    let trillion = 1_000_000_000_000;
-    let but_two = |count: usize| [vec![trillion; count - 2], vec![trillion - 1; 2]].concat();
-    for (start, defaulters, shares) in [
-        ("H 1 7 4 3 3 2 2 4 0 0 0 0 4 0 0 0 0 ", 0, vec![2, 2, 2, 1]),
-        ("H 1 7 5 0 0 0 0 0 5 3 3 2 2 -1000000000000 5 0 0 0 0 1 ", 1, vec![2, 2, 2, 1]),
-        ("H 1 4 5 2 2 1 1 1 ", 0, vec![1, 1, 1, 1, 0]),
-        ("H 1 4 6 0 0 0 0 0 0 6 2 2 1 1 1 ", 1, vec![1, 1, 1, 1, 0]),
-        ("H 1 2 5 0 1 0 1 1 ", 0, vec![0, 1, 0, 1, 0]),
-        ("H 1 2 6 0 0 0 0 0 0 6 0 1 0 1 1 ", 1, vec![0, 1, 0, 1, 0]),
-        ("H 1 63999999999998 64 1000000000000 ", 0, but_two(64)),
-        ("H 1 31999999999998 64 0 ", 32, but_two(32)),
-        ("H 1 95 64 1000000000000 ", 0, [vec![2; 31], vec![1; 33]].concat()),
-    ] {
-        let zeros = vec![0; shares.len() + defaulters];
-        let written = match defaulters {
-            0 => [shares, zeros],
-            _ => [zeros, [shares, vec![0; defaulters]].concat()],
-        };
-        let end = format!(" 0 0 {}", checksum(written.concat().into_iter()));
-        let found = |line: &str| line.starts_with(start) && line.ends_with(&end);
-        assert!(file.lines().any(found), "{start}..{end}");
-    }
-}
-
 /// The checksum of a rate tells which list was handed back: the 8-week list on a
 /// tie, and nothing, whose checksum is 0, on a refusal. Lists of figures have
 /// room for 1,024.

@@ -1,57 +1,116 @@
--- Who gets a yen, said by the remainder of the last who does: everybody with a larger one, and of those alike with it the first few. Assumes nothing.
-use Rattle.std.specs.Prelude.{◌≡◌, Bool, ◌&&◌, ◌||◌, ℕ, zero, suc, ◌+◌, ◌-◌, ◌≤◌, ◌<◌}
-use Rattle.std.proofs.Math.Path.{refl, sym, ap}
-use Rattle.std.proofs.Common.{◌∙◌, inl, inr, ⊎_elim, eq-or-lt_of_le, zero-add, arith}
-use Rattle.std.proofs.Math.Bool.{true, false}
-use Rattle.std.proofs.Math.Dec.{ltb, leb, eqb}
-use borrow.Author.Tests.{lt-ltb, le-ltb, ltb-true, le-leb, leb-true, eq-eqb, ne_eqb, eqb-true, eqb-false}
+-- Who gets a yen, said by the last who does: a member gets one unless the last owner comes before him. The last owner is found by looking at the
+-- members in turn, between the last owner found so far and the largest remainder found to get none. Assumes nothing.
+use Rattle.std.specs.Prelude.{◌≡◌, refl, Bool, true, false, not, ℕ, zero, suc, ◌+◌, ◌-◌, ◌≤◌, ◌<◌, ltb}
+use Rattle.std.proofs.Common.{sym, eq-or-lt_of_le}
+use Rattle.std.proofs.Math.Logic.{inl, inr, ⊎_elim}
+use Rattle.std.proofs.Math.Numerals.{add-one}
+use native.Mathlib.Omega.{arith}
+use borrow.Author.Tests.{lt-ltb, le-ltb, ltb-true, ltb-false}
 use Rattle.whole.specs.Counting.{total, how_many, one_if}
-use Rattle.whole.specs.CountingLaws.{total-same, total-add, many_le, many_lt, many_none}
-use Rattle.portions.specs.Share.{before, how_many_before}
-use Rattle.portions.specs.Order.{comes_true, is-before, not-before_self, three_ways}
+use Rattle.whole.specs.CountingLaws.{total-same}
+use Rattle.whole.specs.Tests.{true_or_false, is_false, clash, below-or-last}
+use Rattle.portions.specs.Share.{comes_before, before, how_many_before}
+use Rattle.portions.specs.Order.{Comes, comes_true, is_comes, is-before, comes_trans, not-before_self, not_after, many_before-lt}
 
--- how many of n members have a remainder above x, and how many have x or more
+-- member j with the remainder x parts the owners of the `yen` from the other members
+pub record Cuts (n : ℕ) (r : ℕ → ℕ) (yen x j : ℕ) : Type 0 where
+  pub parts : (i : ℕ) → i < n → ltb (how_many_before n r i) yen ≡ not (comes_before x j (r i) i)
+
+-- the search when it has seen the members below `seen`: (x, j) and all before him get a yen, and nobody seen who gets one comes after him; of those not
+-- seen yet, whoever has no more than x comes after him, and whoever has no more than y gets none
+pub record Seen (n : ℕ) (r : ℕ → ℕ) (yen seen x j y : ℕ) : Type 0 where
+  pub owners : (i : ℕ) → i < n → comes_before x j (r i) i ≡ false → how_many_before n r i < yen
+  pub found : (i : ℕ) → i < seen → how_many_before n r i < yen → comes_before x j (r i) i ≡ false
+  pub behind : (i : ℕ) → i < n → seen ≤ i → r i ≤ x → comes_before x j (r i) i ≡ true
+  pub others : (i : ℕ) → i < n → seen ≤ i → r i ≤ y → yen ≤ how_many_before n r i
+
+module _ {n : ℕ} {r : ℕ → ℕ} {yen : ℕ} where
+  -- it starts with nobody: a remainder above all, and none at all
+  pub seen_none : (x : ℕ) → ((i : ℕ) → i < n → r i < x) → ((i : ℕ) → i < n → how_many_before n r i < yen → 0 < r i) → Seen n r yen 0 x 0 0
+  seen_none x h some =
+      record {
+        owners = λ i b e. clash (is_comes x 0 (r i) i (inl (h i b))) e;
+        found = λ i b e. absurd (omega arith);
+        behind = λ i b d e. is_comes x 0 (r i) i (inl (h i b));
+        others =
+            λ i b d e. ⊎_elim
+            (λ f. absurd (omega (arith, some i b (ltb-true (how_many_before n r i) yen f))))
+            (ltb-false (how_many_before n r i) yen)
+            (true_or_false (ltb (how_many_before n r i) yen));
+      }
+
+  -- when all are seen the search has the cut
+  pub seen_all : {x j y : ℕ} → Seen n r yen n x j y → Cuts n r yen x j
+  seen_all {x} {j} s =
+      record {
+        parts =
+            λ i b. ⊎_elim
+            (λ e. rw e (le-ltb (how_many_before n r i) yen (late i b e)))
+            (λ e. rw e (lt-ltb (how_many_before n r i) yen (s.owners i b e)))
+            (true_or_false (comes_before x j (r i) i));
+      }
+    where
+      late : (i : ℕ) → i < n → comes_before x j (r i) i ≡ true → yen ≤ how_many_before n r i
+      late i b e = ⊎_elim (λ h. clash e (s.found i b (ltb-true (how_many_before n r i) yen h))) (λ h. ltb-false (how_many_before n r i) yen h) (true_or_false (ltb (how_many_before n r i) yen))
+
+  module _ {i x j y : ℕ} (b : i < n) (s : Seen n r yen i x j y) where
+    -- the next member, of whom nothing new is learnt
+    skip : (how_many_before n r i < yen → comes_before x j (r i) i ≡ false) → Seen n r yen (i + 1) x j y
+    skip h =
+        record {
+          owners = s.owners;
+          found = λ m c e. ⊎_elim (λ d. s.found m d e) (λ q. rw q (h (rw q at e))) (below-or-last m i (rw add-one at c));
+          behind = λ m c d. s.behind m c (omega arith);
+          others = λ m c d. s.others m c (omega arith);
+        }
+
+    -- his remainder is larger than the last owner's
+    pub early : x < r i → Seen n r yen (i + 1) x j y
+    early e = skip (λ h. is_false (comes_before x j (r i) i) (λ f. ⊎_elim (λ g. omega arith) (λ g. omega arith) (comes_true x j (r i) i f)))
+
+    -- it is no larger than that of one who gets none
+    pub late : r i ≤ y → Seen n r yen (i + 1) x j y
+    late e = skip (λ h. absurd (omega (arith, s.others i b (omega arith) e)))
+
+    -- whoever is not seen yet and has no more than he comes after him
+    after : (m : ℕ) → i + 1 ≤ m → r m ≤ r i → Comes (r i) i (r m) m
+    after m d e = ⊎_elim (λ f. inl (ltb-true (r m) (r i) f)) (λ f. inr (omega (arith, ltb-false (r m) (r i) f), omega arith)) (true_or_false (ltb (r m) (r i)))
+
+    -- he is the last owner now
+    pub owns : r i ≤ x → how_many_before n r i < yen → Seen n r yen (i + 1) (r i) i y
+    unfolding before
+    owns e h =
+        record {
+          owners = λ m c f. omega (arith, not_after n r m i c f);
+          found =
+              λ m c f. ⊎_elim
+              (λ d. is_false (comes_before (r i) i (r m) m) (λ g. clash (comes_trans x j (r i) i (r m) m (s.behind i b (omega arith) e) g) (s.found m d f)))
+              (λ q. rw q (not-before_self r i))
+              (below-or-last m i (rw add-one at c));
+          behind = λ m c d f. is_comes (r i) i (r m) m (after m d f);
+          others = λ m c d. s.others m c (omega arith);
+        }
+
+    -- he gets none
+    pub lacks : yen ≤ how_many_before n r i → Seen n r yen (i + 1) x j (r i)
+    lacks h =
+        record {
+          owners = s.owners;
+          found = λ m c e. ⊎_elim (λ d. s.found m d e) (λ q. absurd (omega (arith, rw q at e))) (below-or-last m i (rw add-one at c));
+          behind = λ m c d. s.behind m c (omega arith);
+          others = λ m c d f. omega (arith, many_before-lt n r i m b (is-before r i m (after m d f)));
+        }
+
+-- ---- how many come before a member, by two plain counts
+
+-- how many members below `to` have a remainder above x
 unfoldable pub many_above : ℕ → (ℕ → ℕ) → ℕ → ℕ
-many_above n r x = how_many n (λ j. ltb x (r j))
+many_above to r x = how_many to (λ j. ltb x (r j))
 
-unfoldable pub many_from : ℕ → (ℕ → ℕ) → ℕ → ℕ
-many_from n r x = how_many n (λ j. leb x (r j))
-
--- the yen go to all who have more than x and to `ties` of those who have x
-pub record Parts (n : ℕ) (r : ℕ → ℕ) (yen x ties : ℕ) : Type 0 where
-  pub above_and_ties : many_above n r x + ties ≡ yen
-  pub enough : yen ≤ many_from n r x
-
--- ---- counts
-
--- two tests, each of which says the other
-pub same_test : (s t : Bool) → (s ≡ true → t ≡ true) → (t ≡ true → s ≡ true) → s ≡ t
-same_test true t h k = sym (h refl)
-same_test false true h k = k refl
-same_test false false h k = refl
-
-module _ (n : ℕ) (r : ℕ → ℕ) where
-  -- nobody lies between two figures
-  pub above_same : (x y : ℕ) → ((i : ℕ) → i < n → x < r i → y < r i) → ((i : ℕ) → i < n → y < r i → x < r i) → many_above n r x ≡ many_above n r y
-  unfolding many_above
-  above_same x y h k =
-      total-same n (λ j. one_if (ltb x (r j))) (λ j. one_if (ltb y (r j)))
-      (λ j b. ap one_if (same_test (ltb x (r j)) (ltb y (r j)) (λ e. lt-ltb y (r j) (h j b (ltb-true x (r j) e))) (λ e. lt-ltb x (r j) (k j b (ltb-true y (r j) e)))))
-
-  -- fewer are above a larger figure
-  pub above-le : (x y : ℕ) → x ≤ y → many_above n r y ≤ many_above n r x
-  unfolding many_above
-  above-le x y h = many_le n (λ j. ltb y (r j)) (λ j. ltb x (r j)) (λ j b e. lt-ltb x (r j) (omega (arith, ltb-true y (r j) e)))
-
-  -- all who are above x have y
-  pub from-above : (x y : ℕ) → ((i : ℕ) → i < n → x < r i → y ≤ r i) → many_above n r x ≤ many_from n r y
-  unfolding many_above many_from
-  from-above x y h = many_le n (λ j. ltb x (r j)) (λ j. leb y (r j)) (λ j b e. le-leb y (r j) (h j b (ltb-true x (r j) e)))
-
-  -- all who have x are above y
-  pub above_from : (x y : ℕ) → ((i : ℕ) → i < n → x ≤ r i → y < r i) → many_from n r x ≤ many_above n r y
-  unfolding many_above many_from
-  above_from x y h = many_le n (λ j. leb x (r j)) (λ j. ltb y (r j)) (λ j b e. lt-ltb y (r j) (h j b (leb-true x (r j) e)))
+-- a loop's turn: the next member is counted
+pub above_step : (j : ℕ) (r : ℕ → ℕ) (x from many v : ℕ) → from + many ≡ many_above j r x → v ≡ one_if (ltb x (r j)) → from + (many + v) ≡ many_above (j + 1) r x
+unfolding many_above
+above_step j r x from many v e q = rw add-one (omega arith)
 
 -- two sums that differ only below c
 total-from : (c n : ℕ) (f g : ℕ → ℕ) → c ≤ n → ((j : ℕ) → c ≤ j → f j ≡ g j) → total c g + total n f ≡ total c f + total n g
@@ -60,81 +119,39 @@ total-from c (suc n) f g b h =
     elim (eq-or-lt_of_le b) as (λ _. total c g + total (suc n) f ≡ total c f + total (suc n) g)
     [ inl q ↦ rw q (omega arith) | inr q ↦ omega (arith, total-from c n f g (omega arith) h, h n (omega arith)) ]
 
--- ---- who gets a yen
+-- two tests, each of which says the other
+same_test : (s t : Bool) → (s ≡ true → t ≡ true) → (t ≡ true → s ≡ true) → s ≡ t
+same_test true t h k = sym (h refl)
+same_test false true h k = k refl
+same_test false false h k = refl
 
--- how many below i have x
-abbrev pub alike_below : ℕ → (ℕ → ℕ) → ℕ → ℕ
-alike_below i r x = how_many i (λ j. eqb x (r j))
-
-module _ (n : ℕ) (r : ℕ → ℕ) (x i : ℕ) (b : i < n) where
-  -- who has more than x comes after fewer than have more
-  larger : x < r i → how_many_before n r i < many_above n r x
-  unfolding how_many_before many_above before
-  larger h =
-      many_lt n (λ j. before r j i) (λ j. ltb x (r j)) i b (not-before_self r i) (lt-ltb x (r i) h)
-      (λ j c e. lt-ltb x (r j) (⊎_elim (λ k. omega arith) (λ k. omega arith) (comes_true (r j) j (r i) i e)))
-
-  -- who has less comes after all who have x or more
-  smaller : r i < x → many_from n r x ≤ how_many_before n r i
-  unfolding how_many_before many_from
-  smaller h = many_le n (λ j. leb x (r j)) (λ j. before r j i) (λ j c e. is-before r j i (inl (omega (arith, leb-true x (r j) e))))
-
-  -- of those alike, the lower accounts come before him
-  one : r i ≡ x → (j : ℕ) → one_if (before r j i) ≡ one_if (ltb x (r j)) + one_if (eqb x (r j) && ltb j i)
+module _ (n : ℕ) (r : ℕ → ℕ) (i : ℕ) where
+  -- a member of a lower account comes before i exactly if his remainder is no smaller
+  lower : 0 < r i → (j : ℕ) → j < i → before r j i ≡ ltb (r i - 1) (r j)
   unfolding before
-  one e j = rw e (go (ltb x (r j)) (eqb (r j) x) (eqb x (r j)) refl refl refl)
+  lower p j b =
+      same_test (before r j i) (ltb (r i - 1) (r j))
+      (λ e. lt-ltb (r i - 1) (r j) (⊎_elim (λ h. omega arith) (λ h. omega arith) (comes_true (r j) j (r i) i e)))
+      (λ e. is-before r j i (at_least (ltb-true (r i - 1) (r j) e)))
     where
-      go : (s t u : Bool) → ltb x (r j) ≡ s → eqb (r j) x ≡ t → eqb x (r j) ≡ u → one_if (s || (t && ltb j i)) ≡ one_if s + one_if (u && ltb j i)
-      go true t true p q v = absurd (omega (arith, ltb-true x (r j) p, eqb-true x (r j) v))
-      go true t false p q v = refl
-      go false true true p q v = sym (zero-add (one_if (ltb j i)))
-      go false true false p q v = absurd (eqb-false x (r j) v (sym (eqb-true (r j) x q)))
-      go false false true p q v = absurd (eqb-false (r j) x q (sym (eqb-true x (r j) v)))
-      go false false false p q v = refl
+      at_least : r i - 1 < r j → Comes (r j) j (r i) i
+      at_least h = ⊎_elim (λ e. inl (ltb-true (r i) (r j) e)) (λ e. inr (omega (arith, ltb-false (r i) (r j) e), b)) (true_or_false (ltb (r i) (r j)))
 
-  abbrev lower_alike : (j : ℕ) → Bool
-  lower_alike j = eqb x (r j) && ltb j i
+  -- one of a higher account exactly if it is larger
+  higher : (j : ℕ) → i ≤ j → before r j i ≡ ltb (r i) (r j)
+  unfolding before
+  higher j b =
+      same_test (before r j i) (ltb (r i) (r j))
+      (λ e. lt-ltb (r i) (r j) (⊎_elim (λ h. h) (λ h. absurd (omega arith)) (comes_true (r j) j (r i) i e)))
+      (λ e. is-before r j i (inl (ltb-true (r i) (r j) e)))
 
-  past : (s : Bool) → (s && false) ≡ false
-  past true = refl
-  past false = refl
-
-  within : (s : Bool) → (s && true) ≡ s
-  within true = refl
-  within false = refl
-
-  only_below : how_many n lower_alike ≡ alike_below i r x
-  only_below =
-      let f : ℕ → ℕ = λ j. one_if (lower_alike j) in
-      let z : total i (λ j. 0) ≡ 0 = many_none i (λ j. false) (λ j c. refl) in
-      let y : total n (λ j. 0) ≡ 0 = many_none n (λ j. false) (λ j c. refl) in
-      let e = total-from i n f (λ j. 0) (omega arith) (λ j c. ap one_if (ap (λ t. eqb x (r j) && t) (le-ltb j i c) ∙ past (eqb x (r j)))) in
-      let d = total-same i f (λ j. one_if (eqb x (r j))) (λ j c. ap one_if (ap (λ t. eqb x (r j) && t) (lt-ltb j i c) ∙ within (eqb x (r j)))) in
-      omega (arith, e, d, z, y)
-
-  alike : r i ≡ x → how_many_before n r i ≡ many_above n r x + alike_below i r x
-  unfolding how_many_before many_above
-  alike e =
-      total-same n (λ j. one_if (before r j i)) (λ j. one_if (ltb x (r j)) + one_if (lower_alike j)) (λ j c. one e j)
-      ∙ total-add n (λ j. one_if (ltb x (r j))) (λ j. one_if (lower_alike j))
-      ∙ ap (λ k. many_above n r x + k) only_below
-
--- i gets a yen exactly if he has more than the last owner, or as much while there are yen left for those
-pub gets : (n : ℕ) (r : ℕ → ℕ) (yen x ties : ℕ) → Parts n r yen x ties → (i : ℕ) → i < n →
-    ltb (how_many_before n r i) yen ≡ (ltb x (r i) || (eqb x (r i) && ltb 0 (ties - alike_below i r x)))
-gets n r yen x ties p i b = ⊎_elim more (λ h. ⊎_elim less same h) (three_ways x (r i))
-  where
-    more : x < r i → ltb (how_many_before n r i) yen ≡ (ltb x (r i) || (eqb x (r i) && ltb 0 (ties - alike_below i r x)))
-    more h = rw (lt-ltb x (r i) h) (lt-ltb (how_many_before n r i) yen (omega (arith, larger n r x i b h, p.above_and_ties)))
-
-    less : r i < x → ltb (how_many_before n r i) yen ≡ (ltb x (r i) || (eqb x (r i) && ltb 0 (ties - alike_below i r x)))
-    less h =
-        rw (le-ltb x (r i) (omega arith), ne_eqb x (r i) (λ e. omega arith)) (le-ltb (how_many_before n r i) yen (omega (arith, smaller n r x i b h, p.enough)))
-
-    same : x ≡ r i → ltb (how_many_before n r i) yen ≡ (ltb x (r i) || (eqb x (r i) && ltb 0 (ties - alike_below i r x)))
-    same e =
-        let q = alike n r x i b (sym e) in
-        rw (le-ltb x (r i) (omega arith), eq-eqb x (r i) e)
-        (same_test (ltb (how_many_before n r i) yen) (ltb 0 (ties - alike_below i r x))
-        (λ t. lt-ltb 0 (ties - alike_below i r x) (omega (arith, ltb-true (how_many_before n r i) yen t, q, p.above_and_ties)))
-        (λ t. lt-ltb (how_many_before n r i) yen (omega (arith, ltb-true 0 (ties - alike_below i r x) t, q, p.above_and_ties))))
+  -- so these two counts are of those who come before i
+  pub before-is : i < n → 0 < r i → (a b : ℕ) → many_above 0 r (r i - 1) + a ≡ many_above i r (r i - 1) → many_above i r (r i) + b ≡ many_above n r (r i) →
+      a + b ≡ how_many_before n r i
+  unfolding many_above how_many_before
+  before-is l p a b e f =
+      omega (
+        arith,
+        total-same i (λ j. one_if (before r j i)) (λ j. one_if (ltb (r i - 1) (r j))) (λ j c. rw (lower p j c) refl),
+        total-from i n (λ j. one_if (before r j i)) (λ j. one_if (ltb (r i) (r j))) (omega arith) (λ j c. rw (higher j c) refl),
+      )

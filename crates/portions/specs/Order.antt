@@ -8,7 +8,7 @@ use Rattle.std.proofs.lemmas.Bool.{eqb-false}
 use Rattle.whole.specs.Counting.{how_many, one_if}
 use Rattle.whole.specs.CountingLaws.{total-same, total-le, total-add, many_lt, many_none, many_all, many_once}
 use Rattle.whole.specs.Signs.{false_true}
-use Rattle.whole.specs.Tests.{is_false}
+use Rattle.whole.specs.Tests.{is_false, clash}
 use Rattle.portions.specs.Share.{comes_before, before, how_many_before}
 
 -- what it says that j, with the remainder x, comes before i, with the remainder y
@@ -124,6 +124,17 @@ module _ (n : ℕ) (r : ℕ → ℕ) where
 
   pub served-is : (l : ℕ) → l ≤ n → served l ≡ l
   served-is l h = let e : l + (n - l) ≡ n = omega arith in omega (arith, served-le l, rw e at (served-more l (n - l)), served-all)
+
+-- who does not come after another comes before him or is he
+module _ (n : ℕ) (r : ℕ → ℕ) where
+  pub not_after : (i t : ℕ) → i < n → before r t i ≡ false → how_many_before n r i ≤ how_many_before n r t
+  not_after i t c h = ⊎_elim (λ l. lower l) (λ l. ⊎_elim (λ m. higher m) (λ e. rw e (omega arith)) l) (three_ways i t)
+    where
+      lower : i < t → how_many_before n r i ≤ how_many_before n r t
+      lower l = ⊎_elim (λ k. omega (arith, many_before-lt n r i t c k)) (λ k. clash k h) (one-first r i t l)
+
+      higher : t < i → how_many_before n r i ≤ how_many_before n r t
+      higher l = ⊎_elim (λ k. clash k h) (λ k. omega (arith, many_before-lt n r i t c k)) (one-first r t i l)
 
 -- how many come before depends on the remainders of the n members alone
 pub many_before-same : (n : ℕ) (r s : ℕ → ℕ) → ((i : ℕ) → i < n → r i ≡ s i) → (i : ℕ) → i < n → how_many_before n r i ≡ how_many_before n s i

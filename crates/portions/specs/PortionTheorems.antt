@@ -8,7 +8,7 @@ use Rattle.whole.specs.CountingLaws.{total-most}
 use Rattle.whole.specs.Tests.{true_or_false, clash}
 use Rattle.portions.specs.Share.{before, how_many_before, remainder_of, left, gets_yen, share_of}
 use Rattle.portions.specs.Order.{three_ways, one-first, many_before-lt, served-is}
-use Rattle.portions.specs.ShareLaws.{share-near, left-most, larger, tie, shares_are_amount, some_or_none, share-none, share-nothing, share-no-weight}
+use Rattle.portions.specs.ShareLaws.{share_near, left-most, larger, tie, shares_are_amount, some_or_none, share-none, share-nothing, share-no-weight}
 
 module _ (n : ℕ) (weight : ℕ → ℕ) (amount : ℕ) where
   -- the sum of the weights, member i's share, his remainder, and whether he gets one of the yen left
@@ -40,7 +40,7 @@ module _ (n : ℕ) (weight : ℕ → ℕ) (amount : ℕ) where
   pub share-within : amount ≤ sum → (i : ℕ) → share i ≤ weight i
   share-within h i =
       ⊎_elim
-      (λ s. omega (arith, lt_of_mul-lt-mul_right sum {m = share i} {n = weight i + 1} (omega (arith, share-near n weight amount s i, mul-le-mul_right (weight i) h))))
+      (λ s. omega (arith, lt_of_mul-lt-mul_right sum {m = share i} {n = weight i + 1} (omega (arith, share_near n weight amount s i, mul-le-mul_right (weight i) h))))
       (λ z. omega (arith, share-none n weight amount z i))
       (some_or_none n weight amount)
 

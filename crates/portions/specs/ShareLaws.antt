@@ -37,8 +37,8 @@ module _ (n : ℕ) (weight : ℕ → ℕ) (amount : ℕ) (some : 0 < total n wei
   floor-most i b = le_of_mul-le-mul_right {k = whole} (omega (arith, parts i, mul-le-mul_left amount (total-one n weight i b))) some
 
   -- all floors and remainders together
-  all_parts : total n floor * whole + total n rem ≡ amount * whole
-  all_parts =
+  all-parts : total n floor * whole + total n rem ≡ amount * whole
+  all-parts =
       ap (λ x. x + total n rem) (sym (total_times n floor whole))
       ∙ sym (total-add n (λ i. floor i * whole) rem)
       ∙ total-same n (λ i. floor i * whole + rem i) (λ i. weight i * amount) (λ i b. parts i ∙ mul_comm amount (weight i))
@@ -46,15 +46,15 @@ module _ (n : ℕ) (weight : ℕ → ℕ) (amount : ℕ) (some : 0 < total n wei
       ∙ mul_comm whole amount
 
   pub floors-le : total n floor ≤ amount
-  floors-le = le_of_mul-le-mul_right (omega (arith, all_parts)) some
+  floors-le = le_of_mul-le-mul_right (omega (arith, all-parts)) some
 
   -- what is left is what the remainders add to
   pub left_is : total n floor + left n weight amount ≡ amount
   unfolding left
   left_is = omega (arith, floors-le)
 
-  pub left_rems : left n weight amount * whole ≡ total n rem
-  left_rems = let e = ap (λ x. x * whole) left_is in omega (arith, all_parts)
+  left_rems : left n weight amount * whole ≡ total n rem
+  left_rems = let e = ap (λ x. x * whole) left_is in omega (arith, all-parts)
 
   -- so there are no more yen left than members who have a remainder
   abbrev some_left : ℕ → Bool
@@ -106,8 +106,8 @@ module _ (n : ℕ) (weight : ℕ → ℕ) (amount : ℕ) (some : 0 < total n wei
   share-high i = ⊎_elim (λ e. omega arith) (λ e. omega arith) (share_cases i)
 
   -- it is less than a yen above amount × weight / sum
-  pub share-near : (i : ℕ) → share_of n weight amount i * whole < amount * weight i + whole
-  share-near i =
+  pub share_near : (i : ℕ) → share_of n weight amount i * whole < amount * weight i + whole
+  share_near i =
       ⊎_elim
       (λ e. rw e (omega (arith, parts i, some)))
       (λ e. rw e.0 (omega (arith, parts i, extra_some i e.1)))
@@ -160,7 +160,7 @@ module _ (n : ℕ) (weight : ℕ → ℕ) (amount : ℕ) where
   share-zero : (i : ℕ) → amount * weight i ≡ 0 → share_of n weight amount i ≡ 0
   share-zero i h =
       ⊎_elim
-      (λ s. omega (arith, lt_of_mul-lt-mul_right (total n weight) {m = share_of n weight amount i} {n = 1} (omega (arith, share-near n weight amount s i))))
+      (λ s. omega (arith, lt_of_mul-lt-mul_right (total n weight) {m = share_of n weight amount i} {n = 1} (omega (arith, share_near n weight amount s i))))
       (λ z. share-none z i)
       some_or_none
 

@@ -24,19 +24,8 @@ fn next_digit(sofar: Quot, digit: u64, b: u64, c: u64) -> Quot
     }
 }
 
-// How many digits of 6 bits a number has.
-fn digits_of(a: u64) -> u64
-    requires { a ≤ 2 ^ 57 }
-    ensures { (result ≤ 10) × (a < 2 ^ (result * 6)) }
-{
-    if a == 0 {
-        return 0;
-    }
-    (69 - u64::leading_zeros(a) as u64) / 6
-}
-
-// a * b / c by long division, where b is a part of c: a is taken in digits of 6 bits, the highest first. Since b is at most c, the quotient is at most a; since
-// c is at most 2^57, what stands to be divided at a digit fits.
+// a * b / c by long division, where b is a part of c: a is taken in ten digits of 6 bits, the highest first. Since b is at most c, the quotient is at
+// most a; since c is at most 2^57, what stands to be divided at a digit fits.
 fn mul_div(a: u64, b: u64, c: u64) -> Quot
     requires fact_1 { a ≤ 2 ^ 57 }
     requires fact_2 { b ≤ c }
@@ -44,7 +33,7 @@ fn mul_div(a: u64, b: u64, c: u64) -> Quot
     requires fact_4 { c ≤ 2 ^ 57 }
     ensures { (result.quotient ≡ a * b / c) × (result.remainder ≡ a * b % c) }
 {
-    let mut k: u64 = digits_of(a);
+    let mut k: u64 = 10;
     let mut high: u64 = 0;
     let mut sofar = Quot {
         quotient: 0,
@@ -59,32 +48,7 @@ fn mul_div(a: u64, b: u64, c: u64) -> Quot
     sofar
 }
 
-// A number by which to multiply in the place of a division by a sum: 2^46 / sum, or for larger sums 2^63 / sum, when what is divided is first moved down by 17
-// bits.
-#[derive(Drop)]
-struct Inverse {
-    shift: u64,
-    inverse: u64,
-}
-
-fn inverse_of(sum: u64) -> Inverse
-    requires { 0 < sum }
-    ensures { result ≡ R.inverse_of sum }
-{
-    if sum < 0x20_0000 {
-        return Inverse {
-            shift: 0,
-            inverse: 0x4000_0000_0000 / sum,
-        };
-    }
-    Inverse {
-        shift: 17,
-        inverse: 0x8000_0000_0000_0000 / sum,
-    }
-}
-
-// The ratio of an amount to a sum, made ready for many weights: where it is narrow, 2^15 and 2^30 times the amount are divided by the sum here, once, and so is
-// what the inverse is made of.
+// The ratio of an amount to a sum, made ready for many weights: where it is narrow, 2^15 and 2^30 times the amount are divided by the sum here, once.
 #[derive(Drop)]
 pub struct Ready {
     pub narrow: bool,
@@ -92,40 +56,34 @@ pub struct Ready {
     pub remainder15: u64,
     pub quotient30: u64,
     pub remainder30: u64,
-    pub shift: u64,
-    pub inverse: u64,
 }
 
-// The divisions.
+// The two divisions.
 fn divided(amount: u64, sum: u64) -> Ready
     requires fact_1 { amount ≤ sum }
     requires fact_2 { 0 < sum }
-    requires fact_3 { sum ≤ 64000000000000 }
+    requires fact_3 { sum ≤ 2 ^ 46 }
     ensures { result ≡ R.divided amount sum }
 {
     let first = amount * 32768;
     let quotient15 = first / sum;
     let remainder15 = first % sum;
     let second = remainder15 * 32768;
-    let by = inverse_of(sum);
     Ready {
         narrow: true,
         quotient15: quotient15,
         remainder15: remainder15,
         quotient30: quotient15 * 32768 + second / sum,
         remainder30: second % sum,
-        shift: by.shift,
-        inverse: by.inverse,
     }
 }
 
-// The ratio is narrow where the amount is at most the sum and the sum no more than 64 members' largest figures: every layer of document 01 is. Where it is not,
-// nothing is divided.
+// The ratio is narrow where the amount is at most the sum and the sum at most 2^46: every layer of document 01 is. Where it is not, nothing is divided.
 pub fn ratio_of(amount: u64, sum: u64) -> Ready
     requires { 0 < sum }
     ensures { result ≡ R.ratio_of amount sum }
 {
-    if amount <= sum && sum <= 64000000000000 {
+    if amount <= sum && sum <= 0x4000_0000_0000 {
         return divided(amount, sum);
     }
     Ready {
@@ -134,36 +92,14 @@ pub fn ratio_of(amount: u64, sum: u64) -> Ready
         remainder15: 0,
         quotient30: 0,
         remainder30: 0,
-        shift: 0,
-        inverse: 0,
     }
 }
 
-// rest / sum without a division: by the inverse it comes out right or one too small, which the remainder tells.
-fn by_inverse(rest: u64, sum: u64, shift: u64, inverse: u64) -> Quot
-    requires { R.Divides rest sum shift inverse }
-    ensures { (result.quotient ≡ rest / sum) × (result.remainder ≡ rest % sum) }
-{
-    let estimate = ((rest >> shift) * inverse) >> 46;
-    let over = rest - estimate * sum;
-    if over < sum {
-        return Quot {
-            quotient: estimate,
-            remainder: over,
-        };
-    }
-    Quot {
-        quotient: estimate + 1,
-        remainder: over - sum,
-    }
-}
-
-// With a narrow ratio a weight takes no division: its three digits of 15 bits (the highest may have 16) take so many times the quotients and remainders made
-// ready, and what the remainders come to is below 2^17 times the sum.
+// With a narrow ratio a weight takes one division: its three digits of 15 bits (the highest may have 16) take so many times the quotients and remainders
+// made ready, and what the remainders come to is below 2^63.
 fn part_narrow(ready: Ready, amount: u64, weight: u64, sum: u64) -> Quot
-    requires ratio_1 { R.Ratio amount sum ready.quotient15 ready.remainder15 ready.quotient30 ready.remainder30 }
-    requires ratio_2 { weight ≤ sum }
-    requires inverts { R.Inverts sum ready.shift ready.inverse }
+    requires fact_1 { R.Ratio amount sum ready.quotient15 ready.remainder15 ready.quotient30 ready.remainder30 }
+    requires fact_2 { weight ≤ sum }
     ensures { (result.quotient ≡ amount * weight / sum) × (result.remainder ≡ amount * weight % sum) }
 {
     let upper = weight / 32768;
@@ -171,10 +107,9 @@ fn part_narrow(ready: Ready, amount: u64, weight: u64, sum: u64) -> Quot
     let middle = upper % 32768;
     let low = weight % 32768;
     let rest = high * ready.remainder30 + middle * ready.remainder15 + low * amount;
-    let last = by_inverse(rest, sum, ready.shift, ready.inverse);
     Quot {
-        quotient: high * ready.quotient30 + middle * ready.quotient15 + last.quotient,
-        remainder: last.remainder,
+        quotient: high * ready.quotient30 + middle * ready.quotient15 + rest / sum,
+        remainder: rest % sum,
     }
 }
 

@@ -12,16 +12,17 @@ use Rattle.whole.specs.Listed.{each_of}
 use Rattle.portions.specs.Bounds.{most_members}
 use Rattle.shares.specs.Loss.{most_loss, most_figure, member_ok, members_ok, one_length, refusal}
 
--- five lists have one length
-pub record Lengths (n differences marks first second : ℕ) : Type 0 where
+-- six lists, one of them scratch for the weights, have one length
+pub record Lengths (n differences marks weights first second : ℕ) : Type 0 where
   pub some : 1 ≤ n
   pub few : n ≤ most_members
   pub differences_same : differences ≡ n
   pub marks_same : marks ≡ n
+  pub weights_same : weights ≡ n
   pub first_same : first ≡ n
   pub second_same : second ≡ n
 
-pub lengths_say : (n differences marks first second : ℕ) → one_length n differences marks first second ≡ true → Lengths n differences marks first second
+pub lengths_say : (n differences marks first second : ℕ) → one_length n differences marks first second ≡ true → Lengths n differences marks n first second
 lengths_say n differences marks first second e =
     let e1 = both (leb 1 n) _ e in
     let e2 = both (leb n most_members) _ e1.1 in
@@ -33,6 +34,7 @@ lengths_say n differences marks first second e =
       few = leb-true n most_members e2.0;
       differences_same = eqb-true differences n e3.0;
       marks_same = eqb-true marks n e4.0;
+      weights_same = refl;
       first_same = eqb-true first n e5.0;
       second_same = eqb-true second n e5.1;
     }
@@ -43,7 +45,7 @@ difference-says (pos k) e = leb-true k 1000000000000 e
 difference-says (negsuc k) e = omega (arith, leb-true k 999999999999 (both (leb k 999999999999) true e).0)
 
 pub record Accepted (loss : ℤ) (deposits differences marks : List ℤ) (first second : ℕ) : Type 0 where
-  pub lengths : Lengths (length deposits) (length differences) (length marks) first second
+  pub lengths : Lengths (length deposits) (length differences) (length marks) (length deposits) first second
   pub loss_low : pos 0 ≤ℤ loss
   pub loss_high : nat_abs loss ≤ most_loss
   pub loss_natural : loss ≡ pos (nat_abs loss)
@@ -62,7 +64,7 @@ module _ (loss : ℤ) (deposits differences marks : List ℤ) (first second : �
   unfolding refusal
   tests = none (one_length (length deposits) (length differences) (length marks) first second) (between (pos 0) (pos most_loss) loss) (members_ok deposits differences marks) not-refused
 
-  lengths : Lengths (length deposits) (length differences) (length marks) first second
+  lengths : Lengths (length deposits) (length differences) (length marks) (length deposits) first second
   lengths = lengths_say (length deposits) (length differences) (length marks) first second tests.0
 
   member : (i : ℕ) → i < length deposits → member_ok (figure_at deposits i) (figure_at differences i) (figure_at marks i) ≡ true

@@ -1,12 +1,12 @@
 // The two layers of a loss that is accepted, and their shares (document 01, "Sharing a default loss"; source 000, article 12-7(2)).
-ghost use Rattle.std.specs.Prelude.{◌≡◌, ◌≤◌, min, pos, nat_abs, length};
+ghost use Rattle.std.specs.Prelude.{◌≡◌, ◌≤◌, min, nat_abs, length};
 ghost use Rattle.whole.specs.Counting.{total, listed};
 ghost use Rattle.whole.specs.Reps.{Each};
 ghost use Rattle.portions.specs.Bounds.{most_members};
 ghost use Rattle.shares.specs.Loss as L;
 ghost use Rattle.shares.specs.Accepted.{Lengths};
 
-use portions::share_in_place;
+use portions::share;
 use whole::up;
 
 // What a member weighs in a layer: a survivor's figure, where it is positive. A defaulter weighs nothing.
@@ -35,19 +35,19 @@ fn negative_of(mark: i64, difference: i64) -> u64
 }
 
 // Writes every member's weight and answers their sum, so that they need not be read back for it.
-fn weigh(marks: &[i64], figures: &[i64], out: &mut [i64]) -> u64
+fn weigh(marks: &[i64], figures: &[i64], weights: &mut [u64]) -> u64
     requires marks_len_1 { length marks.now ≡ length figures.now }
-    requires marks_len_2 { length out.old ≡ length figures.now }
+    requires marks_len_2 { length weights.old ≡ length figures.now }
     requires figures_len_bound_1 { length figures.now ≤ most_members }
     requires figures_len_bound_2 { Each L.most_figure figures.now }
     ensures value { result ≡ total (length figures.now) (L.weight marks.now figures.now) }
-    ensures out_after { out.new ≡ listed (length figures.now) (λ i. pos (L.weight marks.now figures.now i)) }
+    ensures weights_after { weights.new ≡ listed (length figures.now) (L.weight marks.now figures.now) }
 {
     let mut sum: u64 = 0;
     let mut i: usize = 0;
     while i < figures.len() {
         let weight = weight_of(marks[i], figures[i]);
-        out[i] = weight as i64;
+        weights[i] = weight;
         sum += weight;
         i += 1;
     }
@@ -76,24 +76,51 @@ fn least(a: u64, b: u64) -> u64
     if a <= b { a } else { b }
 }
 
-// Shares a layer of at most `most`, and says how large it is. `out` holds the weights, and then the shares in their place: nothing is kept beside it (request
-// M-103).
-fn layer(most: u64, marks: &[i64], figures: &[i64], out: &mut [i64]) -> u64
+// Shares a layer of at most `most`, and says how large it is. The weights are left in `weights`.
+fn layer(most: u64, marks: &[i64], figures: &[i64], weights: &mut [u64], out: &mut [i64]) -> u64
     requires marks_len_1 { length marks.now ≡ length figures.now }
-    requires marks_len_2 { length out.old ≡ length figures.now }
-    requires marks_len_3 { length figures.now ≤ most_members }
+    requires marks_len_2 { length weights.old ≡ length figures.now }
+    requires marks_len_3 { length out.old ≡ length figures.now }
+    requires marks_len_4 { length figures.now ≤ most_members }
     requires each_1 { Each L.most_figure figures.now }
     requires each_2 { most ≤ L.most_loss }
     ensures value { result ≡ L.layer most marks.now figures.now }
     ensures out_after { out.new ≡ L.layer_shares most marks.now figures.now }
+    ensures weights_after { weights.new ≡ listed (length figures.now) (L.weight marks.now figures.now) }
 {
-    let sum = weigh(marks, figures, out);
+    let sum = weigh(marks, figures, weights);
     let amount = least(most, sum);
-    share_in_place(amount, sum, out);
+    share(amount, sum, weights, out);
     amount
 }
 
-// Shares both layers; what remains of the loss.
+// Shares both layers; what remains of the loss. Layer two's weights are left in `weights`.
+fn both_layers(
+    loss: u64,
+    deposits: &[i64],
+    differences: &[i64],
+    marks: &[i64],
+    weights: &mut [u64],
+    first: &mut [i64],
+    second: &mut [i64],
+) -> u64
+    requires lengths { Lengths (length deposits.now) (length differences.now) (length marks.now) (length weights.old) (length first.old) (length second.old) }
+    requires each_1 { Each L.most_figure deposits.now }
+    requires each_2 { Each L.most_figure differences.now }
+    requires each_3 { loss ≤ L.most_loss }
+    ensures value { result ≡ L.remains loss deposits.now differences.now marks.now }
+    ensures first_after { first.new ≡ L.shares_one loss deposits.now marks.now }
+    ensures second_after { second.new ≡ L.shares_two loss deposits.now differences.now marks.now }
+    ensures weights_after { weights.new ≡ listed (length differences.now) (L.weight marks.now differences.now) }
+{
+    let one = layer(loss, marks, deposits, weights, first);
+    let rest = loss - one;
+    let most = least(rest, negatives(marks, differences));
+    let two = layer(most, marks, differences, weights, second);
+    rest - two
+}
+
+// The same with room of its own for the weights: eight members or fewer need no room for 64.
 pub fn shared(
     loss: u64,
     deposits: &[i64],
@@ -102,7 +129,7 @@ pub fn shared(
     first: &mut [i64],
     second: &mut [i64],
 ) -> u64
-    requires lengths { Lengths (length deposits.now) (length differences.now) (length marks.now) (length first.old) (length second.old) }
+    requires lengths { Lengths (length deposits.now) (length differences.now) (length marks.now) (length deposits.now) (length first.old) (length second.old) }
     requires each_1 { Each L.most_figure deposits.now }
     requires each_2 { Each L.most_figure differences.now }
     requires each_3 { loss ≤ L.most_loss }
@@ -110,9 +137,27 @@ pub fn shared(
     ensures first_after { first.new ≡ L.shares_one loss deposits.now marks.now }
     ensures second_after { second.new ≡ L.shares_two loss deposits.now differences.now marks.now }
 {
-    let one = layer(loss, marks, deposits, first);
-    let rest = loss - one;
-    let most = least(rest, negatives(marks, differences));
-    let two = layer(most, marks, differences, second);
-    rest - two
+    let n = deposits.len();
+    if n <= 8 {
+        let mut few: [u64; 8] = [0; 8];
+        return both_layers(
+            loss,
+            deposits,
+            differences,
+            marks,
+            &mut few[..n],
+            first,
+            second,
+        );
+    }
+    let mut weights: [u64; 64] = [0; 64];
+    both_layers(
+        loss,
+        deposits,
+        differences,
+        marks,
+        &mut weights[..n],
+        first,
+        second,
+    )
 }

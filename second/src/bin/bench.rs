@@ -12,7 +12,7 @@ use second::clerk::{other, Clerk, Lists, Members, Plain};
 use second::gen::ledgers::{self, Flavour};
 use second::gen::{shares, texts};
 use second::ledger::Layout;
-use second::limits::{GROSS, TEXT, WEIGHT};
+use second::limits::{GROSS, TEXT};
 use second::margin::{CAP, CASH, DUE, GUARANTEE_AT, KIND};
 use second::rng::Rng;
 use std::hint::black_box;
@@ -123,10 +123,6 @@ fn parts_apart() -> Vec<(&'static str, Part)> {
     vec![
         ("margin rate, 40 and 520 figures", rate(40, 520, 2_000)),
         ("margin rate, 2 and 2 figures", rate(2, 2, 40_000)),
-        ("loss sharing, 63 yen left", one_layer(stepped(false), 63, 800)),
-        ("the same, weights rising", one_layer(stepped(true), 63, 800)),
-        ("loss sharing, 31 yen left", one_layer(stepped(true), 31, 800)),
-        ("loss sharing, 64 alike", one_layer(vec![WEIGHT; 64], 32, 800)),
     ]
 }
 
@@ -246,37 +242,15 @@ fn sharing(at: Layout, times: usize) -> Part {
     let (deposits, differences) = (figures(100_000_000_000), figures(-900_000_000_000));
     let marks: Vec<i64> = (0..at.n as i64).map(|a| i64::from(a % 8 == 1)).collect();
     let kept: i64 = deposits.iter().zip(&marks).filter(|(_, &m)| m == 0).map(|(&d, _)| d).sum();
-    shared(kept + 123_456_789, [deposits, differences, marks], times)
-}
-
-/// 64 deposits, no two alike, that fall or rise with the account.
-fn stepped(rising: bool) -> Vec<i64> {
-    let mut deposits: Vec<i64> = (0..64).map(|a| 900_000_000_000 - 1_234_567 * a).collect();
-    if rising {
-        deposits.reverse();
-    }
-    deposits
-}
-
-/// Layer one alone, by the largest loss that leaves so many yen. There is one
-/// among the first below the sum, each of which leaves a yen less.
-fn one_layer(deposits: Vec<i64>, yen: i64, times: usize) -> Part {
-    let sum: i64 = deposits.iter().sum();
-    let left = |loss: i64| {
-        let down = |&d: &i64| (i128::from(loss) * i128::from(d) / i128::from(sum)) as i64;
-        loss - deposits.iter().map(down).sum::<i64>()
+    let first = vec![0; at.n];
+    let mut of = shares::Loss {
+        loss: kept + 123_456_789,
+        deposits,
+        differences,
+        marks,
+        second: first.clone(),
+        first,
     };
-    let zeros = vec![0; deposits.len()];
-    let mut below = (sum - deposits.len() as i64..sum).rev();
-    let loss = below.find(|&loss| left(loss) == yen).expect("a loss that leaves them");
-    shared(loss, [deposits, zeros.clone(), zeros], times)
-}
-
-/// A loss by its deposits, differences and marks.
-fn shared(loss: i64, [deposits, differences, marks]: [Vec<i64>; 3], times: usize) -> Part {
-    let first = vec![0; marks.len()];
-    let second = first.clone();
-    let mut of = shares::Loss { loss, deposits, differences, marks, first, second };
     Box::new(move |clerk| {
         let members =
             Members { deposits: &of.deposits, differences: &of.differences, marks: &of.marks };

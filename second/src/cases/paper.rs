@@ -1,10 +1,9 @@
 //! Cases by hand.
 
-use crate::limits::{AMOUNT, DIFFERENCE, GROSS, HOUSE, LOG_RATIO, WEIGHT};
+use crate::limits::{AMOUNT, GROSS, HOUSE, LOG_RATIO};
 
 /// The paper's own figures that are not among R1 to R12, as cases of a kind:
-/// those of "Figures by hand", and M-101's; and lists by hand for M-103 and
-/// M-105.
+/// those of "Figures by hand", and M-101's; and lists by hand for M-105.
 pub fn paper(kind: char) -> Vec<Vec<Vec<i64>>> {
     // An F and an L by their cash and dues, all else 0.
     let words = |house: i64, broker: [i64; 4], provider: [i64; 4]| {
@@ -33,45 +32,17 @@ pub fn paper(kind: char) -> Vec<Vec<Vec<i64>>> {
         .flat_map(|figures| [0, 1].map(|a| vec![vec![a], words(0, figures, figures)]))
         .collect(),
         'B' => vec![vec![vec![], words(HOUSE, [0, -1, 0, 0], [0, 1, 0, 0])]],
-        'H' => losses(),
+        'H' => vec![vec![
+            vec![12 * million],
+            vec![5 * million; 3],
+            vec![900_000, -100_000, -2_500_000],
+            vec![0, 0, 1],
+            vec![7; 3],
+            vec![-7; 3],
+        ]],
         'M' => windows(),
         _ => vec![],
     }
-}
-
-/// Losses: the paper's own, and yen left to be told apart by their remainders
-/// (M-103), in layer one and in layer two.
-fn losses() -> Vec<Vec<Vec<i64>>> {
-    let million = 1_000_000;
-    let one = |loss: i64, deposits: Vec<i64>| {
-        let zeros = vec![0; deposits.len()];
-        sharing(loss, deposits, zeros.clone(), zeros)
-    };
-    // The last ones default, and owe what the layer takes.
-    let two = |loss: i64, gains: Vec<i64>, defaulters: usize| {
-        let marks = [vec![0; gains.len()], vec![1; defaulters]].concat();
-        let differences = [gains, vec![-DIFFERENCE; defaulters]].concat();
-        sharing(loss, vec![0; marks.len()], differences, marks)
-    };
-    let small = [(7, vec![3, 3, 2, 2]), (4, vec![2, 2, 1, 1, 1]), (2, vec![0, 1, 0, 1, 1])];
-    let but_one = |count: usize| [vec![WEIGHT; count - 1], vec![WEIGHT - 1]].concat();
-    // 63 yen are left to 64 different weights, falling and rising.
-    let stepped: Vec<i64> = (0..64).map(|a| 900_000_000_000 - 1_234_567 * a).collect();
-    let rising = stepped.iter().rev().copied().collect();
-    let below: i64 = stepped.iter().sum::<i64>() - 1;
-    let differences = vec![900_000, -100_000, -2_500_000];
-    let mut all = vec![sharing(12 * million, vec![5 * million; 3], differences, vec![0, 0, 1])];
-    for (loss, weights) in small {
-        all.extend([one(loss, weights.clone()), two(loss, weights, 1)]);
-    }
-    all.extend([one(64 * WEIGHT - 2, but_one(64)), two(32 * WEIGHT - 2, but_one(32), 32)]);
-    all.extend([one(below, stepped), one(below, rising), one(95, vec![WEIGHT; 64])]);
-    all
-}
-
-fn sharing(loss: i64, deposits: Vec<i64>, differences: Vec<i64>, marks: Vec<i64>) -> Vec<Vec<i64>> {
-    let count = marks.len();
-    vec![vec![loss], deposits, differences, marks, vec![7; count], vec![-7; count]]
 }
 
 /// Pairs of lists of log ratios: rates at their edges, ties, lengths and figures

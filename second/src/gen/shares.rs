@@ -1,5 +1,4 @@
-//! Inputs for loss sharing: ties, zeros, all in default, maxima, wrong lengths,
-//! and layers that leave nearly a yen for each member or end amid a tie (M-103).
+//! Inputs for loss sharing: ties, zeros, all in default, maxima, wrong lengths.
 
 use super::{argument, inside};
 use crate::limits::{DIFFERENCE, LOSS, WEIGHT};
@@ -38,23 +37,14 @@ pub fn draw(rng: &mut Rng, most: usize) -> Loss {
 
 /// A sharing that will be answered with 0.
 pub fn good(rng: &mut Rng, most: usize) -> Loss {
-    // One in three is to leave yen in number, so more of them have many members.
-    let leaving = rng.one_in(3);
     let count = match rng.below(8) {
         0 => 1,
         1 => most,
         2 => rng.between(1, most as i64) as usize,
-        3 if leaving => most,
-        4 if leaving => rng.between(1, most as i64) as usize,
         _ => rng.between(1, most.min(8) as i64) as usize,
     };
-    let (deposits, mut differences) = if leaving {
-        // In half of them one defaulter can owe as much as all others gain.
-        let high = rng.pick(&[DIFFERENCE, DIFFERENCE / count as i64]);
-        (near_weights(rng, count, WEIGHT), near_weights(rng, count, high))
-    } else {
-        (weights(rng, count, 0, WEIGHT), weights(rng, count, -DIFFERENCE, DIFFERENCE))
-    };
+    let deposits = weights(rng, count, 0, WEIGHT);
+    let differences = weights(rng, count, -DIFFERENCE, DIFFERENCE);
     let marks: Vec<i64> = match rng.below(8) {
         0 => vec![0; count],
         1 => vec![1; count],
@@ -63,16 +53,7 @@ pub fn good(rng: &mut Rng, most: usize) -> Loss {
             (0..count).map(|_| i64::from(rng.one_in(often))).collect()
         }
     };
-    let loss = if leaving {
-        // The defaulters owe, or else layer two would be empty.
-        let alike = rng.coin();
-        for (figure, _) in differences.iter_mut().zip(&marks).filter(|(_, &mark)| mark == 1) {
-            *figure = if alike { -DIFFERENCE } else { -*figure };
-        }
-        loss_leaving(rng, &deposits, &differences, &marks)
-    } else {
-        loss_near(rng, &deposits, &differences, &marks)
-    };
+    let loss = loss_near(rng, &deposits, &differences, &marks);
     let first = (0..count).map(|_| rng.any()).collect();
     let second = (0..count).map(|_| rng.any()).collect();
     Loss { loss, deposits, differences, marks, first, second }
@@ -94,41 +75,15 @@ fn weights(rng: &mut Rng, count: usize, low: i64, high: i64) -> Vec<i64> {
     (0..count).map(|_| one(rng)).collect()
 }
 
-/// Weights close to each other and all different, rising or falling with the
-/// account; or few different ones, so that many tie.
-fn near_weights(rng: &mut Rng, count: usize, high: i64) -> Vec<i64> {
-    if rng.coin() {
-        let step = rng.pick(&[1, 2, 9, 1_000_000]);
-        let mut weight = inside(rng, 0, high - step * count as i64);
-        let mut rising: Vec<i64> = vec![];
-        for _ in 0..count {
-            weight += rng.between(1, step);
-            rising.push(weight);
-        }
-        if rng.coin() {
-            rising.reverse();
-        }
-        return rising;
-    }
-    let common = inside(rng, 1, high);
-    let few = [common, (common + rng.between(-2, 2)).clamp(0, high), inside(rng, 0, high)];
-    let different = rng.between(2, 3) as usize;
-    (0..count).map(|_| rng.pick(&few[..different])).collect()
-}
-
-/// The most that the two layers can come to.
-fn ceilings(deposits: &[i64], differences: &[i64], marks: &[i64]) -> (i64, i64) {
+/// A loss about where one of the ceilings lies, or small, or any.
+fn loss_near(rng: &mut Rng, deposits: &[i64], differences: &[i64], marks: &[i64]) -> i64 {
     let survivors = |list: &[i64]| -> i64 {
         list.iter().zip(marks).filter(|(_, &mark)| mark == 0).map(|(&x, _)| x.max(0)).sum()
     };
     let owed: i64 =
         differences.iter().zip(marks).filter(|(_, &m)| m == 1).map(|(&x, _)| (-x).max(0)).sum();
-    (survivors(deposits), survivors(differences).min(owed))
-}
-
-/// A loss about where one of the ceilings lies, or small, or any.
-fn loss_near(rng: &mut Rng, deposits: &[i64], differences: &[i64], marks: &[i64]) -> i64 {
-    let (one, two) = ceilings(deposits, differences, marks);
+    let one = survivors(deposits);
+    let two = survivors(differences).min(owed);
     let loss = match rng.below(10) {
         0 => one + rng.between(-2, 2),
         1 => one + two + rng.between(-2, 2),
@@ -140,24 +95,6 @@ fn loss_near(rng: &mut Rng, deposits: &[i64], differences: &[i64], marks: &[i64]
         _ => inside(rng, 0, LOSS),
     };
     loss.clamp(0, LOSS)
-}
-
-/// A loss that ends a little below the ceiling of a layer, or about a multiple
-/// of an even share of it. A yen below the sum of its weights a layer leaves a
-/// yen less than there are survivors, two yen below it two less, and so on.
-fn loss_leaving(rng: &mut Rng, deposits: &[i64], differences: &[i64], marks: &[i64]) -> i64 {
-    let (one, two) = ceilings(deposits, differences, marks);
-    let (before, ceiling) = if rng.coin() { (0, one) } else { (one, two) };
-    let survivors = marks.iter().filter(|&&mark| mark == 0).count().max(1) as i64;
-    let any = rng.between(0, survivors);
-    let yen = rng.pick(&[1, 1, survivors - 1, any]);
-    let layer = match rng.below(6) {
-        0..=2 => ceiling - yen,
-        3 => yen,
-        4 => ceiling / survivors * any + rng.between(-survivors, survivors),
-        _ => rng.between(0, ceiling),
-    };
-    (before + layer).clamp(0, LOSS)
 }
 
 fn lists(of: &mut Loss) -> [&mut Vec<i64>; 5] {

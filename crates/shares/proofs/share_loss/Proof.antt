@@ -4,6 +4,7 @@ use Prim.Native.Nat.{◌≤◌}
 use native.Mathlib.Omega.{arith}
 use lib.IntN.{nat_abs}
 use lib.ListN.{length}
+use lib.Seq.{length-take-le}
 use borrow.Author.Tests.{eq-eqb, ne_eqb}
 use mir.Syntax.{w64}
 use mir.ValLaws.{to_z_pos}
@@ -57,6 +58,7 @@ shared-requires c κs =
         few = l.few;
         differences_same = l.differences_same;
         marks_same = l.marks_same;
+        weights_same = refl;
         first_same = l.first_same;
         second_same = l.second_same;
       },

@@ -25,23 +25,20 @@ rem-remainder15 c = search rules
 mul-second : tie.Need-overflow-mul-second
 mul-second c = omega (arith, once c)
 
-inverse-of-requires : tie.Need-inverse-of-requires
-inverse-of-requires c κs = search rules
+mul-t7 : tie.Need-overflow-mul-t7
+mul-t7 c = omega (arith, once c)
 
-mul-t8 : tie.Need-overflow-mul-t8
-mul-t8 c = omega (arith, once c.before)
+div-t8 : tie.Need-nonzero-div-t8
+div-t8 c = search rules
 
-div-t9 : tie.Need-nonzero-div-t9
-div-t9 c = search rules
-
-add-t10 : tie.Need-overflow-add-t10
-add-t10 c =
-    let a = c.before.args in
+add-t9 : tie.Need-overflow-add-t9
+add-t9 c =
+    let a = c.args in
     let second = a.amount * 32768 % a.sum * 32768 in
-    omega (arith, once c.before, div-le_self second a.sum)
+    omega (arith, once c, div-le_self second a.sum)
 
-rem-t11 : tie.Need-nonzero-rem-t11
-rem-t11 c = search rules
+rem-t10 : tie.Need-nonzero-rem-t10
+rem-t10 c = search rules
 
 -- 2^30 times the amount is the second division on top of the first
 both : (c : tie.Start) →
@@ -56,16 +53,15 @@ both c =
 
 returns : tie.Need-returns
 returns c =
-    let a = c.before.args in
+    let a = c.args in
     let first = a.amount * 32768 in
     let second = first % a.sum * 32768 in
     let q = first / a.sum * 32768 + second / a.sum in
     let less : second % a.sum < a.sum = mod-lt second (omega arith) in
-    let e = both c.before in
-    let by = c.inverse-of.ensures in
+    let e = both c in
     let quotient : q ≡ a.amount * 2 ^ 30 / a.sum = rw e (sym (digits_div q less)) in
     let remainder : second % a.sum ≡ a.amount * 2 ^ 30 % a.sum = rw e (sym (digits_mod q less)) in
-    λ i. record { narrow = true; quotient15 = first / a.sum; remainder15 = first % a.sum; quotient30 = quotient i; remainder30 = remainder i; shift = (by i).shift; inverse = (by i).inverse }
+    λ i. record { narrow = true; quotient15 = first / a.sum; remainder15 = first % a.sum; quotient30 = quotient i; remainder30 = remainder i }
 
 pub divided-spec : {M : Type 1} → statement M
 divided-spec =
@@ -75,9 +71,8 @@ divided-spec =
     div-quotient15
     rem-remainder15
     mul-second
-    inverse-of-requires
-    mul-t8
-    div-t9
-    add-t10
-    rem-t11
+    mul-t7
+    div-t8
+    add-t9
+    rem-t10
     returns)

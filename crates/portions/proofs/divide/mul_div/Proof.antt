@@ -4,7 +4,6 @@ use mathlib.Core.Path.{◌≡◌, refl, sym, ap, ◌∙◌}
 use Prim.Native.Nat.{◌+◌, ◌*◌, ◌-◌, ◌/◌, ◌^◌, ◌≤◌, ◌<◌}
 use native.Mathlib.Nat.{div-add-mod', mod-lt, le_of_mul-le-mul_right, mul-le-mul, mul-le-mul_right, div-eq_of_lt, div-one}
 use native.Mathlib.Omega.{arith}
-use borrow.Author.Rules.{rules}
 use lib.Arith.{digits_div, digits_mod}
 use lib.Pow.{shr-shr, shr_le}
 use Rattle.portions.proofs.divide.mul_div.Statement.{statement}
@@ -17,20 +16,17 @@ invariant-loop a b c k₀ high₀ sofar₀ k high sofar =
 abbrev decreases-loop : tie.decreases-loop
 decreases-loop a b c k₀ high₀ sofar₀ k high sofar = k
 
-digits-of-requires : tie.Need-digits-of-requires invariant-loop decreases-loop
-digits-of-requires c κs = search rules
-
 loop-holds : tie.Need-loop-init invariant-loop decreases-loop
-loop-holds c = let d = c.digits_of.ensures in (d.0, sym (div-eq_of_lt d.1), omega arith, omega arith)
+loop-holds c = (omega arith, sym (div-eq_of_lt (omega arith)), omega arith, omega arith)
 
 -- where the next digit stands, and what it is
 place : (c : tie.In-loop invariant-loop decreases-loop) →
-    let s = c.before.before.before.args in
+    let s = c.before.before.args in
     let l = c.before.loop in
     let next = s.a / 2 ^ ((l.k - 1) * 6) in
     ((l.k - 1) * 6 < 64) × (l.high * 64 ≤ next) × (next < l.high * 64 + 64) × (next ≤ s.a) × (l.sofar.quotient ≤ l.high)
 place c =
-    let s = c.before.before.before.args in
+    let s = c.before.before.args in
     let l = c.before.loop in
     let j = l.k - 1 in
     let next = s.a / 2 ^ (j * 6) in
@@ -63,7 +59,7 @@ sub-next-digit c = omega (arith, place c)
 
 next-digit-requires : tie.Need-next-digit-requires invariant-loop decreases-loop
 next-digit-requires c κs =
-    let s = c.before.before.before.args in
+    let s = c.before.before.args in
     let l = c.before.loop in
     let p = place c in
     omega (arith, mul-le-mul_right (64) p.4)
@@ -73,7 +69,7 @@ loop-less c = omega arith
 
 loop-again : tie.Need-loop-preserved invariant-loop decreases-loop
 loop-again c =
-    let s = c.before.before.before.before.args in
+    let s = c.before.before.before.args in
     let l = c.before.before.loop in
     let p = place c.before in
     let e = c.next-digit.ensures in
@@ -84,7 +80,7 @@ loop-again c =
 
 returns : tie.Need-returns invariant-loop decreases-loop
 returns c =
-    let s = c.before.before.before.args in
+    let s = c.before.before.args in
     let l = c.before.loop in
     let z : l.k ≡ 0 = omega arith in
     let h : l.high ≡ s.a = l.invariant.1 ∙ rw z (div-one s.a) in
@@ -97,7 +93,6 @@ mul-div-spec =
     (tie.spec
     invariant-loop
     decreases-loop
-    digits-of-requires
     loop-holds
     sub-k
     mul_next

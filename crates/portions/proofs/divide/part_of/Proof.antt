@@ -1,6 +1,6 @@
 -- `part_of` meets its contract. Assumes nothing.
 use borrow.Author.Rules.{rules}
-use Rattle.portions.specs.Ratio.{NarrowRatio, ratio-narrow}
+use Rattle.portions.specs.Ratio.{ratio_narrow}
 use Rattle.portions.proofs.divide.part_of.Statement.{statement}
 use Rattle.portions.proofs.divide.part_of.Tie as tie
 
@@ -8,8 +8,7 @@ part-narrow-requires : tie.Need-part-narrow-requires
 part-narrow-requires c κs =
     let s = c.before in
     let e = s.requires.0 in
-    let n : NarrowRatio s.args.amount s.args.sum s.args.ready = rw e (ratio-narrow s.args.amount s.args.sum s.requires.1.1.1.0 (rw e at c.if1.true)) in
-    (n.ratio, (s.requires.1.1.0, n.inverts))
+    (rw e (ratio_narrow s.args.amount s.args.sum s.requires.1.1.1.0 (rw e at c.if1.true)), s.requires.1.1.0)
 
 returns : tie.Need-returns
 returns c = search rules

@@ -1,49 +1,36 @@
--- `shared` meets its contract: what each layer leaves is what the next one may be, and no layer is more than it may be. Assumes nothing.
-use mathlib.Core.Path.{◌≡◌, refl, sym, ap, ap₂, ◌∙◌}
-use Prim.Native.Nat.{◌-◌, min}
+-- `shared` meets its contract: the part lent for the weights has as many words as there are members. Assumes nothing.
+use mathlib.Core.Path.{◌≡◌, sym}
+use Prim.Native.Nat.{ℕ, ◌≤◌}
 use native.Mathlib.Omega.{arith}
-use Rattle.shares.specs.Loss.{negatives, layer, most_two, remains}
-use Rattle.shares.specs.LossLaws.{layer-most}
+use lib.Seq.{length-take-le}
 use borrow.Author.Rules.{rules}
+use Rattle.shares.specs.Accepted.{Lengths}
 use Rattle.shares.proofs.layers.shared.Statement.{statement}
 use Rattle.shares.proofs.layers.shared.Tie as tie
 
-layer-requires : tie.Need-layer-requires
-layer-requires c κs = search rules
+-- weights of another list of that length
+with-weights : {n d m v f s : ℕ} (w : ℕ) → w ≡ n → Lengths n d m v f s → Lengths n d m w f s
+with-weights w e l =
+    record {
+      some = l.some;
+      few = l.few;
+      differences_same = l.differences_same;
+      marks_same = l.marks_same;
+      weights_same = e;
+      first_same = l.first_same;
+      second_same = l.second_same;
+    }
 
-sub-rest : tie.Need-overflow-sub-rest
-sub-rest c =
-    let a = c.before.before.before.args in
-    omega (arith, c.before.layer.ensures.0, layer-most a.loss a.marks.now a.deposits.now)
+array-borrow-prefix-few : tie.Need-array-borrow-prefix-few
+array-borrow-prefix-few c = search rules
 
-negatives-requires : tie.Need-negatives-requires
-negatives-requires c κs = search rules
+slice-aggregate-both-layers : tie.Need-slice-aggregate-both-layers
+slice-aggregate-both-layers c = sym (length-take-le _ _ c.before.if1.true)
 
-least-requires : tie.Need-least-requires
-least-requires c κs = search rules
-
--- how large layer two may be
-most-is : (c : tie.After-least) →
-    let a = c.before.before.before.before.before.args in
-    c.least.result ≡ most_two a.loss a.deposits.now a.differences.now a.marks.now
-unfolding most_two
-most-is c =
-    let f = c.before.before.before in
-    let loss = f.before.before.args.loss in
-    c.least.ensures ∙ ap₂ min (ap (λ x. loss - x) f.layer.ensures.0) c.before.negatives.ensures
-
-layer-requires-2 : tie.Need-layer-requires-2
-layer-requires-2 c κs =
-    let s = c.before.before.before.before.before.before in
-    let p = s.requires.0 in
-    let d = sym p.differences_same in
-    (p.marks_same ∙ d, (p.second_same ∙ d, (omega (arith, p.few, d), (s.requires.1.1.0, omega (arith, c.before.least.ensures, s.requires.1.1.1)))))
-
-sub-result : tie.Need-overflow-sub-result
-sub-result c =
-    let e = c.before.before.before in
-    let a = e.before.before.before.before.before.args in
-    omega (arith, c.before.layer2.ensures.0, layer-most e.least.result a.marks.now a.differences.now, e.least.ensures)
+both-layers-requires : tie.Need-both-layers-requires
+both-layers-requires c κs =
+    let t = c.before.before.before in
+    (with-weights _ (length-take-le _ _ t.if1.true) t.before.requires.0, t.before.requires.1)
 
 same_length : tie.Need-same-length
 same_length c = search rules
@@ -52,24 +39,41 @@ same-length-2 : tie.Need-same-length-2
 same-length-2 c = search rules
 
 returns : tie.Need-returns
-unfolding remains
-returns c =
-    let l = c.before.layer2.ensures in
-    let e = c.before.before.before in
-    let f = e.before.before.before.layer.ensures in
-    let m = most-is e in
-    (rw (l.0, f.0, m) refl, (f.1, rw m at l.1))
+returns c = search rules
+
+array-borrow-prefix-weights : tie.Need-array-borrow-prefix-weights
+array-borrow-prefix-weights c = search rules
+
+slice-aggregate-both-layers-2 : tie.Need-slice-aggregate-both-layers-2
+slice-aggregate-both-layers-2 c = sym (length-take-le _ _ c.before.before.requires.0.few)
+
+both-layers-requires-2 : tie.Need-both-layers-requires-2
+both-layers-requires-2 c κs =
+    let p = c.before.before.before.before.requires in
+    (with-weights _ (length-take-le _ _ p.0.few) p.0, p.1)
+
+same-length-3 : tie.Need-same-length-3
+same-length-3 c = search rules
+
+same-length-4 : tie.Need-same-length-4
+same-length-4 c = search rules
+
+returns-2 : tie.Need-returns-2
+returns-2 c = search rules
 
 pub shared-spec : {M : Type 1} → statement M
 shared-spec =
     tie.close
     (tie.spec
-    layer-requires
-    sub-rest
-    negatives-requires
-    least-requires
-    layer-requires-2
-    sub-result
+    array-borrow-prefix-few
+    slice-aggregate-both-layers
+    both-layers-requires
     same_length
     same-length-2
-    returns)
+    returns
+    array-borrow-prefix-weights
+    slice-aggregate-both-layers-2
+    both-layers-requires-2
+    same-length-3
+    same-length-4
+    returns-2)

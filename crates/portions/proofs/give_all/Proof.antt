@@ -1,4 +1,4 @@
--- `write_weights` meets its contract: the words passed are the weights, which fit. Assumes nothing.
+-- `give_all` meets its contract: the words passed are the weights, which fit. Assumes nothing.
 use mathlib.Core.Path.{◌≡◌, ◌∙◌}
 use Prim.Native.Nat.{◌-◌, ◌≤◌, zero-le}
 use native.Mathlib.Omega.{arith}
@@ -10,8 +10,8 @@ use Rattle.portions.specs.Share.{of_member}
 use mir.Syntax.{w64}
 use mir.Val.{to_z}
 use mir.ValLaws.{to_z_pos}
-use Rattle.portions.proofs.write_weights.Statement.{statement}
-use Rattle.portions.proofs.write_weights.Tie as tie
+use Rattle.portions.proofs.give_all.Statement.{statement}
+use Rattle.portions.proofs.give_all.Tie as tie
 
 abbrev invariant-loop : tie.invariant-loop
 invariant-loop weights out₀ i₀ out i = (i ≤ length weights) × (length out ≡ length weights) × (out ≡ filled i (λ k. pos (of_member weights k)) out₀)
@@ -65,8 +65,8 @@ returns c =
     let e : l.i ≡ length ws = omega arith in
     rw e at l.invariant.2 ∙ filled-all (length ws) (λ k. pos (of_member ws k)) a.out.now (omega arith)
 
-pub write-weights-spec : {M : Type 1} → statement M
-write-weights-spec =
+pub give-all-spec : {M : Type 1} → statement M
+give-all-spec =
     tie.close
     (tie.spec
     invariant-loop
