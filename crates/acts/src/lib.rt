@@ -1,1 +1,2 @@
 // Definitions and laws alone: what each call does, in specs/.
+#![tactic(auto)]

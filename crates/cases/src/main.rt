@@ -1,5 +1,6 @@
 // Runs the cases on file that another program of the rules wrote with the replies it gives: every number, figure and checksum of the words
 // at exit is compared. Prints of each kind how many cases there are, and how many came out otherwise.
+#![tactic(auto)]
 mod reading; // the lists and figures of a line
 mod sums; // the checksum of words
 mod ledgers; // the calls on a ledger

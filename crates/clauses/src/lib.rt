@@ -1,5 +1,6 @@
 // Which clause of soundness a list of words fails first (01, "The ledger's words"), found by the tests of soundness themselves, so that whoever
 // wrote the words can be told what to mend.
+#![tactic(auto)]
 ghost use Rattle.std.specs.Prelude.{◌≡◌, true, ◌<◌, ◌≤◌, length};
 ghost use Rattle.whole.specs.Number as N;
 ghost use Rattle.whole.specs.Counting.{all, sum};
@@ -17,7 +18,7 @@ pub mod numbers;
 
 // A clause that fails, of which account and which product (0 where it is of none), and the figure that fails it: the word itself, of a balance
 // the sum of the lots, and 0 of a clause on the list's length or on several words.
-#[derive(Drop)]
+#[derive(Clone, Copy)]
 pub struct Failing {
     pub clause: u64,
     pub account: usize,

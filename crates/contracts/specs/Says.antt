@@ -27,7 +27,7 @@ pub record Contract (T : Ended) : Type 2 where
   pub clauses : (M : Type 1) (𝓤 : Ura M) (𝓛 : Logic 𝓤) → (Memory → SProp 𝓤) → (Routine → Fun 𝓤) → Clauses 𝓤 T
 
 abbrev pub clauses_in : {T : Ended} → Contract T → (w : World) → Clauses w.𝓤 T
-clauses_in c w = c.clauses w.M w.𝓤 w w.mem w.run
+clauses_in c w = c.clauses w.M w.𝓤 w.𝓛 w.mem w.run
 
 -- the lifetimes of a call
 abbrev pub Lives : Ended → Type 0

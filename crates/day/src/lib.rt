@@ -1,5 +1,6 @@
 // The sheet of a day file (01, "The day file and the sheet"): the calls are done, and what they answer is printed. `sheet` is the entry
 // point, text to text.
+#![tactic(auto)]
 ghost use Rattle.std.specs.Prelude.{◌≡◌, ◌+◌, ◌*◌, ◌<◌, ◌≤◌, pos, length, replicate};
 ghost use Rattle.std.proofs.lemmas.List.Edits.{sets};
 ghost use Rattle.places.specs.Place.{words_of};
@@ -24,7 +25,7 @@ use places::Shape;
 const ROOM: usize = 65536;
 
 // Where the next call's line starts, and where the next byte is written.
-#[derive(Drop)]
+#[derive(Clone, Copy)]
 pub struct Turn {
     pub at: usize,
     pub put: usize,

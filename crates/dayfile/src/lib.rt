@@ -1,6 +1,7 @@
 // The day file, read (01, "The day file and the sheet"), line by line through the view of `reader`: the table of contents; the bodies, of which
 // `sections` has all but the calls. What reads a line takes a text and a place in it, and gives the next place, or LOST. The number of a line goes
 // up only past a good line, so that the first bad one needs no search.
+#![tactic(auto)]
 mod body;
 pub mod reader;
 mod sections;
@@ -29,14 +30,14 @@ pub const MOST_FIGURES: usize = places::MOST_PRODUCTS * 4;
 const NO_CALL: usize = MOST_FIGURES + 1;
 
 // A line of the table of contents: its count, and the next line.
-#[derive(Drop)]
+#[derive(Clone, Copy)]
 pub struct Counted {
     pub count: usize,
     pub next: usize,
 }
 
 // What a position's line says, and the next line.
-#[derive(Drop)]
+#[derive(Clone, Copy)]
 pub struct Holding {
     pub account: i64,
     pub product: i64,
@@ -46,7 +47,7 @@ pub struct Holding {
 }
 
 // The table of contents: its counts, the place behind it or LOST, and the number of the line there, or of the bad line.
-#[derive(Drop)]
+#[derive(Clone, Copy)]
 pub struct Contents {
     pub products: usize,
     pub accounts: usize,
@@ -57,7 +58,7 @@ pub struct Contents {
 }
 
 // Where the bodies end, or the bad line; and where the calls start.
-#[derive(Drop)]
+#[derive(Clone, Copy)]
 pub struct Bodies {
     pub at: usize,
     pub line: usize,

@@ -84,7 +84,7 @@ fn end_at(text: &[u8], at: usize) -> usize
 // ---- the view
 
 // A text, and a place in it.
-#[derive(Drop)]
+#[derive(Clone, Copy)]
 pub struct Reader<'a> {
     pub text: &'a [u8],
     pub at: usize,

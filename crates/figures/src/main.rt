@@ -1,5 +1,6 @@
 // Runs the code of the rule book on the figures of document 01 that concern one product, one account or a default loss, "Figures by hand"
 // first, then the bounds of its ranges.
+#![tactic(auto)]
 use lines::{
     account, broker, deposit, first, guaranteed, limit, provider, second, show, transfer, unsound,
     withdrawal,

@@ -23,7 +23,7 @@ const CLOSE: u64 = 9;
 const TRADE: u64 = 6;
 
 // What is asked, the account that is named, and two figures.
-#[derive(Drop)]
+#[derive(Clone, Copy)]
 pub struct Event {
     pub kind: u64,
     pub account: i64,
@@ -31,7 +31,7 @@ pub struct Event {
     pub two: i64,
 }
 
-#[derive(Drop)]
+#[derive(Clone, Copy)]
 pub struct Answer {
     pub number: u64,
     pub one: i64,

@@ -1,6 +1,7 @@
 // Demand 3, run: random histories of requests between the transfers of a settlement run, over the proved calls. Each is done as it came, and
 // again in three stretches on the same start; every answer and every word at the end is compared. Prints how many histories, events and
 // differences there were, and how many events of each stretch.
+#![tactic(auto)]
 use libc::STDOUT_FILENO;
 
 mod chance;

@@ -15,7 +15,7 @@ use places::Shape;
 use rules::Reply;
 
 // A position in one product.
-#[derive(Drop)]
+#[derive(Clone, Copy)]
 pub struct Position {
     pub lots: i64,
     pub book: i64,

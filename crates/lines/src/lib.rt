@@ -1,6 +1,8 @@
 // Words, numbers, fields and lines of a text, read at a place of it and written at a place of a list of bytes (01, "The day file and the
 // sheet"). Each reader gives the next place, or LOST. Nothing can be read at LOST, so that no reader has to ask whether the one before it
 // found what it looked for.
+#![tactic(auto)]
+
 ghost use Rattle.std.specs.Prelude.{◌≡◌, ◌∷◌, ◌+◌, ◌-◌, ◌*◌, ◌<◌, ◌≤◌, pos, length, get_or};
 ghost use Rattle.std.proofs.lemmas.List.Edits.{sets};
 ghost use Rattle.lines.specs.InsideLines.{digits_at};
@@ -14,28 +16,28 @@ pub const LONGEST: usize = 65536;
 pub const LOST: usize = LONGEST + 1;
 
 // Where a reader stands: its place, and the number of the line there; of a lost reader, of the bad line.
-#[derive(Drop)]
+#[derive(Clone, Copy)]
 pub struct LineStart {
     pub at: usize,
     pub line: usize,
 }
 
 // A number that was read, and the place behind its last digit.
-#[derive(Drop)]
+#[derive(Clone, Copy)]
 pub enum Numeral {
     Bad,
     Value(i64, usize),
 }
 
 // What a field holds, and where the next one starts, or LOST.
-#[derive(Drop)]
+#[derive(Clone, Copy)]
 pub struct Field {
     pub value: i64,
     pub next: usize,
 }
 
 // Where the digits that a place begins with end, and their value.
-#[derive(Drop)]
+#[derive(Clone, Copy)]
 pub struct LeadingDigits {
     pub end: usize,
     pub value: u64,

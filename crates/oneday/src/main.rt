@@ -1,6 +1,7 @@
 // A whole day and the next morning on one ledger: trades, a run with requests between its transfers, closes, and every refusal on the way. A
 // line for each call: what was asked, what came, and what document 01 gives, worked out apart; at the end the words that differ from those of
 // 01, counted.
+#![tactic(auto)]
 use libc::STDOUT_FILENO;
 
 mod lines;

@@ -1,5 +1,7 @@
 // The ledger's words as places: which word a place is, reads and writes by place. Only the functions `.._at` know the layout; above
 // them no index is seen (01, "The ledger's words").
+#![tactic(auto)]
+
 ghost use Rattle.std.specs.Prelude.{◌≡◌, ◌<◌, ◌≤◌};
 ghost use Rattle.places.specs.Place.{Has, head, prod, acct, held, get, put, words_of};
 ghost use Rattle.places.specs.Act.{most_accounts, most_products};
@@ -7,7 +9,7 @@ ghost use Rattle.places.specs.PlaceLaws.{Sized};
 ghost use Rattle.places.specs.ByAccount.{by_account};
 
 // How many accounts and how many products a ledger has.
-#[derive(Drop)]
+#[derive(Clone, Copy)]
 pub struct Shape {
     pub n: usize,
     pub p: usize,

@@ -10,14 +10,14 @@ use rules::sizes;
 
 // Where in the run a call stands: the phase (RULES, 3.2), 0 outside a run and then one more than the transfers that are done; and whether a close is
 // done since the last begin.
-#[derive(Drop)]
+#[derive(Clone, Copy)]
 struct Stage {
     phase: usize,
     closed: bool,
 }
 
 // A call's reply, and where it stands: the call's line, how many accounts and products there are, and the stage.
-#[derive(Drop)]
+#[derive(Clone, Copy)]
 struct Refusal {
     line: usize,
     n: usize,

@@ -39,7 +39,7 @@ pub fn plus(a: usize, b: usize) -> usize {
 // ---- which section
 
 // A section, how many lines of it the table states, and which one of them a line is, from 1.
-#[derive(Drop)]
+#[derive(Clone, Copy)]
 pub struct Slot {
     pub section: usize,
     pub says: usize,

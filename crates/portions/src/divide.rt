@@ -2,7 +2,7 @@
 ghost use Rattle.std.specs.Prelude.{◌≡◌, ◌*◌, ◌/◌, ◌%◌, ◌^◌, ◌+◌, ◌≤◌, ◌<◌};
 ghost use Rattle.portions.specs.Ratio as R;
 
-#[derive(Drop)]
+#[derive(Clone, Copy)]
 pub struct Quot {
     pub quotient: u64,
     pub remainder: u64,
@@ -49,7 +49,7 @@ fn mul_div(a: u64, b: u64, c: u64) -> Quot
 }
 
 // The ratio of an amount to a sum, made ready for many weights: where it is narrow, 2^15 and 2^30 times the amount are divided by the sum here, once.
-#[derive(Drop)]
+#[derive(Clone, Copy)]
 pub struct Ready {
     pub narrow: bool,
     pub quotient15: u64,

@@ -1,4 +1,6 @@
 // One amount shared by weights, to the yen: document 01, "Sharing a default loss", the house rule on shares.
+#![tactic(auto)]
+
 ghost use Rattle.std.specs.Prelude.{not, ◌≡◌, ℕ, ◌+◌, ◌≤◌, ◌<◌, pos, nat_abs, ◌+ℤ◌, length, get_or};
 ghost use Rattle.whole.specs.Counting.{one_if, listed};
 ghost use Rattle.whole.specs.Listed.{filled};
@@ -82,7 +84,7 @@ fn with_yen(x: i64, more: bool) -> i64
 
 // What is known of the cut between the members who get a yen and those who get none: the last found to get one, and the largest remainder of one found
 // to get none.
-#[derive(Drop)]
+#[derive(Clone, Copy)]
 struct Cut {
     last: u64,
     owner: usize,

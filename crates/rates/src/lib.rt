@@ -1,4 +1,5 @@
 // Margin rates from price history (request M-105; source 001, article 4).
+#![tactic(auto)]
 ghost use Rattle.std.specs.Prelude.{◌≡◌, ◌&&◌, leb};
 ghost use Prim.Native.Nat as N;
 ghost use Rattle.rates.specs.MarginRate.{most_count, rated, part_of};
@@ -13,7 +14,7 @@ mod root;
 mod windows;
 
 // What two windows come to: the number, the larger rate, and whether the 8-week window governs.
-#[derive(Drop)]
+#[derive(Clone, Copy)]
 struct Judged {
     number: u64,
     rate: i64,

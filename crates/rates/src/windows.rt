@@ -7,7 +7,7 @@ ghost use Rattle.rates.specs.RateLaws.{most_spread, least_square};
 use whole::{up, within};
 
 // What a pass leaves: the sum of the figures and that of their squares, unless a figure is out of range.
-#[derive(Drop)]
+#[derive(Clone, Copy)]
 pub struct Sums {
     pub ok: bool,
     pub sum: i64,

@@ -1,4 +1,6 @@
 // The rule book on one account and one product (document 01, "The margin rules" and "The day"), by value.
+#![tactic(auto)]
+
 pub mod sizes; // the limits of every figure
 pub mod products; // rate, Y, margin and daily difference of one product
 pub mod accounts; // the margin rules on one account, and what a sound record is
@@ -6,14 +8,14 @@ pub mod calls; // deposit, withdrawal, guarantee, transfer and question on one a
 
 // What a call answers: 0 and a figure, or the refusal's number and its figure (01, "Numbers returned").
 #[repr(C)]
-#[derive(Drop)]
+#[derive(Clone, Copy)]
 pub struct Reply {
     pub number: u64,
     pub figure: i64,
 }
 
 // What a question answers: limit and both shortfalls, all three 0 when refused.
-#[derive(Drop)]
+#[derive(Clone, Copy)]
 pub struct Standing {
     pub number: u64,
     pub limit: i64,
@@ -23,7 +25,7 @@ pub struct Standing {
 
 // An account's figures before its positions. Kind 0 is a broker F, 1 a liquidity provider L.
 #[repr(C)]
-#[derive(Drop)]
+#[derive(Clone, Copy)]
 pub struct Account {
     pub kind: i64,
     pub cash: i64,
@@ -36,7 +38,7 @@ pub struct Account {
 }
 
 // A call on one account: its reply, and the account after it.
-#[derive(Drop)]
+#[derive(Clone, Copy)]
 pub struct Taken {
     pub number: u64,
     pub figure: i64,
@@ -44,7 +46,7 @@ pub struct Taken {
 }
 
 // A product. Kind 0 is yen, 1 a cross; a cross names the yen products of its principal and its quote currency.
-#[derive(Drop)]
+#[derive(Clone, Copy)]
 pub struct Product {
     pub kind: i64,
     pub mark: i64,

@@ -1,6 +1,7 @@
 // The sheet program (01, "The day file and the sheet"): reads a day file from standard input, or from the file that its first argument
 // names, and prints the sheet on standard output. What is wrong with a bad text, which calls were refused, and why a file can not be read, it
 // says on standard error.
+#![tactic(auto)]
 ghost use Rattle.std.specs.Prelude.{◌≤◌, length};
 
 use libc::{STDERR_FILENO, STDIN_FILENO, STDOUT_FILENO};

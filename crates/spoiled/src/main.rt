@@ -1,6 +1,7 @@
 // A sound ledger with one word spoiled, in each way that 01, "The ledger's words", names: every call on it answers 1 and leaves every word.
 // A line for each: its name, the numbers that deposit, withdrawal, guarantee, question, trade, begin and step answer, and the count of words
 // that they altered.
+#![tactic(auto)]
 use libc::STDOUT_FILENO;
 
 const SIZE: usize = 47;

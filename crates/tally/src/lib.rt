@@ -1,4 +1,6 @@
 // What the programs of the gate count by: how many words of two lists differ.
+#![tactic(auto)]
+
 ghost use Rattle.std.specs.Prelude.{◌≡◌, not, ◌≤◌, eqb};
 ghost use Rattle.whole.specs.Counting.{one_if};
 ghost use Rattle.tally.specs.Tally.{other, differing};

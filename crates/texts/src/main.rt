@@ -1,6 +1,7 @@
 // Runs many texts through `day::sheet` and compares each sheet with the one expected, and what `plain` tells beside it likewise: a line
 // for each kind of text, with how many texts it has and how many differ; then how many differ in all. The texts, their sheets and what is told
 // beside them are read from standard input (`cases` says how); those of the largest day, and those saved by other habits, are made here.
+#![tactic(auto)]
 ghost use Rattle.std.specs.Prelude.{◌≤◌, ◌<◌, length};
 
 use libc::{STDIN_FILENO, STDOUT_FILENO};

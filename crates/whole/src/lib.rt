@@ -1,4 +1,6 @@
 // Signed whole numbers: tests of range, size, sums and differences, the two ways of rounding. Every contract is exact.
+#![tactic(auto)]
+
 ghost use Rattle.std.specs.Prelude.{◌≡◌, ◌*◌, ◌≤◌, ◌<◌, ◌^◌, pos, nat_abs, ◌+ℤ◌, ◌-ℤ◌, ◌≤ℤ◌};
 ghost use Rattle.whole.specs.Number as N;
 
