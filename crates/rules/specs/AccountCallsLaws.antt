@@ -1,10 +1,10 @@
 -- What the calls on one account keep. A sound record stays sound; a refusal changes nothing; a deposit and a withdrawal change cash alone, a
 -- guarantee call guarantee and cap alone; a withdrawal is taken exactly up to the limit, and then leaves cash at or above 0. Assumes nothing.
-use Rattle.std.specs.Prelude.{◌≡◌, refl, Bool, true, false, ◌&&◌, ◌≤◌, leb, ℤ, pos, nat_abs, ◌+ℤ◌, ◌-ℤ◌, ◌≤ℤ◌}
+use Rattle.std.specs.Prelude.{◌≡◌, refl, true, ◌&&◌, ◌≤◌, leb, ℤ, pos, nat_abs, ◌+ℤ◌, ◌-ℤ◌, ◌≤ℤ◌}
 use Rattle.std.proofs.Common.{arith}
 use Rattle.std.specs.Int.Signed.{le_z}
 use borrow.Author.Tests.{leb-true, le-leb}
-use Rattle.whole.specs.Number.{min_z, max_z, unless}
+use Rattle.whole.specs.Number.{min_z, max_z}
 use Rattle.whole.specs.Signs.{is_true}
 use Rattle.whole.specs.Reps.{leaf}
 use Rattle.whole.specs.Whole.{whole, known, facts, by, told, true_le}

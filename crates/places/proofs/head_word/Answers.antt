@@ -10,5 +10,5 @@ use Rattle.places.proofs.head_word.Goals as goal
 
 pub returns : goal.returns
 returns c =
-    let s@@1 = c in
+    let s = c in
     back (get_or s.args.words.now s.args.k (pos 0)) c.result-1.given ∙ head-word by_account s.args.s s.args.words.now s.args.k
