@@ -1,5 +1,6 @@
 // What a sound ledger is: the test of any list of words, clause by clause (01, "The ledger's words"), and the gate that every call passes.
 #![tactic(auto)]
+
 ghost use Rattle.std.specs.Prelude.{◌≡◌, true, cond, ◌&&◌, ℕ, ◌-◌, ◌<◌, ◌≤◌, length, pos, nat_abs};
 ghost use Rattle.whole.specs.Number.{within, between, is};
 ghost use Rattle.whole.specs.Counting.{all};
