@@ -1,6 +1,6 @@
 -- What stands at a place of a text: words and decimal numbers (01: "no plus sign, no leading zeros, no -0", "a number past signed 64 bits").
 -- A text is a list of bytes, and a place of it a number of bytes.
-use Rattle.std.specs.Prelude.{Bool, true, false, cond, List, [], ◌∷◌, ℕ, ◌+◌, ◌*◌, ◌-◌, ltb, eqb, ℤ, pos, neg_ℤ, length, drop, get_or}
+use Rattle.std.specs.Prelude.{Bool, true, false, cond, List, [], ◌∷◌, ℕ, ◌+◌, ◌*◌, ◌-◌, ltb, eqb, pos, neg_ℤ, length, drop, get_or}
 use Rattle.lines.specs.declared.Numeral.{Numeral}
 use Rattle.lines.specs.declared.Numeral.TheVariants as N
 

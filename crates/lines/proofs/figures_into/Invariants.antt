@@ -1,0 +1,9 @@
+-- What is left of the line, written from here, is the whole of it, written from the start.
+use Rattle.lines.proofs.FieldLaws.{Filled}
+use Rattle.lines.proofs.figures_into.Given as goal
+
+abbrev pub invariant-loop-left : goal.invariant-loop-left
+invariant-loop-left l = Filled l.text l.from l.count l.initial.out l.base l.out l.at l.i l.left
+
+abbrev pub decreases-loop-left : goal.decreases-loop-left
+decreases-loop-left l = l.left

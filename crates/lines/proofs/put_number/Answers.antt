@@ -1,0 +1,34 @@
+-- The sign decides which of the two cases of a decimal number is written.
+use mathlib.Core.Path.{◌≡◌, ◌∙◌, ap}
+use mathlib.Core.List.{List, ◌∷◌}
+use Prim.Native.Nat.{ℕ, ◌+◌}
+use native.Mathlib.Numerals.{add-one}
+use native.Mathlib.Omega.{arith}
+use lib.ListN.{length}
+use lib.Seq.{sets}
+use mir.Syntax.{w64}
+use mir.Facts.{to_z-of_z}
+use Rattle.lines.specs.Print.{natural, decimal}
+use Rattle.lines.proofs.PrintLaws.{decimal-below, decimal-above}
+use Rattle.lines.proofs.put_number.Goals as goal
+
+pub returns-then-x-lt0 : goal.returns-then-x-lt0
+returns-then-x-lt0 c =
+    let a = c.args in
+    let x-is = to_z-of_z {w = w64} c.ranges.x in
+    let d = c.put_natural in
+    let e : 45 ∷ natural c.nat_abs.result ≡ decimal a.x =
+    rw (c.nat_abs.ensures, x-is) (decimal-below a.x (simp x-is at c.if-x-lt0.true)) in
+    let f : a.at + 1 + length (natural c.nat_abs.result) ≡ a.at + length (45 ∷ natural c.nat_abs.result) = omega arith in (
+      d.ensures.0 ∙ f ∙ ap (λ (l : List ℕ). a.at + length l) e,
+      d.ensures.1 ∙ rw (add-one a.at) (ap (λ (l : List ℕ). sets a.out.now a.at l) e),
+    )
+
+pub returns : goal.returns
+returns c =
+    let a = c.args in
+    let x-is = to_z-of_z {w = w64} c.ranges.x in
+    let d = c.put_natural-2 in
+    let e : natural c.nat_abs-2.result ≡ decimal a.x =
+    rw (c.nat_abs-2.ensures, x-is) (decimal-above a.x (simp x-is at c.if-x-lt0.false)) in
+    (d.ensures.0 ∙ ap (λ (l : List ℕ). a.at + length l) e, d.ensures.1 ∙ ap (λ (l : List ℕ). sets a.out.now a.at l) e)
