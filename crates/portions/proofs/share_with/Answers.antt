@@ -1,10 +1,9 @@
 -- `share_with` meets its contract: the floors, with a yen for each member whom the cut does not come before, are the shares. Assumes nothing.
-use mathlib.Core.Path.{◌≡◌, refl, ap, ◌∙◌}
+use mathlib.Core.Path.{◌≡◌, refl, ◌∙◌}
 use mathlib.Core.Bool.{not}
 use mathlib.Core.List.{List}
 use Prim.Native.Nat.{ℕ, ◌≤◌, ◌<◌}
 use native.Mathlib.Omega.{arith}
-use borrow.Author.Rules.{rules}
 use lib.IntN.{ℤ, pos, ◌+ℤ◌, nat_abs}
 use lib.ListN.{length, get_or}
 use Rattle.whole.specs.Counting.{total, one_if, listed}
@@ -15,8 +14,8 @@ use Rattle.portions.specs.Bounds.{most_amount}
 use Rattle.portions.specs.Order.{many_before-same}
 use Rattle.portions.specs.Cut.{Cuts}
 use Rattle.portions.specs.ShareLaws.{floor-most, rem_lt, extra_some, share-is}
-use Rattle.portions.proofs.share_with.Statement.{statement}
-use Rattle.portions.proofs.share_with.Tie as tie
+use Rattle.portions.proofs.share_with.Goals.{Start}
+use Rattle.portions.proofs.share_with.Goals as goal
 
 module _ (n : ℕ) (w : ℕ → ℕ) (amount : ℕ) (some : 0 < total n w) where
   abbrev floors : List ℤ
@@ -54,57 +53,32 @@ module _ (n : ℕ) (w : ℕ → ℕ) (amount : ℕ) (some : 0 < total n w) where
         word i b =
             rw (get_or-listed n (λ k. pos (floor_of n w amount k)) (pos 0) i b, ← c.parts i b, many_before-same n (of_member after) (remainder_of n w amount) remainder i b, y, share-is n w amount some i) refl
 
-floors-requires : tie.Need-floors-requires
-floors-requires c κs = search rules
-
 -- somebody has a weight
-some-weight : (c : tie.Start) → let ws = c.args.weights.now in 0 < total (length ws) (of_member ws)
-some-weight c = rw c.requires.1.1.1.0 at c.requires.1.1.1.1.0
+some-weight : (c : Start) → let ws = c.args.weights.now in 0 < total (length ws) (of_member ws)
+some-weight c = rw c.requires.weights_4 at c.requires.sum_nonzero_1
 
-cut-of-requires : tie.Need-cut-of-requires
-cut-of-requires c κs =
-    let d = c.before.before.before.before in
-    let s = d.before.before.before.before.before in
+pub cut_of-cut-requires : goal.cut_of-cut-requires
+cut_of-cut-requires c = let d = c in
+    let s = d in
     let ws = s.args.weights.now in
-    let r = d.floors.ensures.1.0 in (
-      s.requires.0.few,
-      (
-        room (length ws) (of_member ws) s.args.amount (some-weight s) _ _ r s.requires.1.1.1.1.1,
-        (
-          rw s.requires.1.1.1.0 (below-sum (length ws) (of_member ws) s.args.amount (some-weight s) _ _ r),
-          some-remainder (length ws) (of_member ws) s.args.amount (some-weight s) _ _ r _ d.floors.ensures.0,
-        ),
-      ),
-    )
+    let r = d.floors-yen.ensures.remainders_after in record { n_le_most_members_1 = s.requires.weights_1.few; n_le_most_members_2 = room (length ws) (of_member ws) s.args.amount (some-weight (goal.at.cut_of-cut-requires s).Start) _ _ r s.requires.sum_nonzero_2; n_le_most_members_3 = rw s.requires.weights_4 (below-sum (length ws) (of_member ws) s.args.amount (some-weight (goal.at.cut_of-cut-requires s).Start) _ _ r); by_index = some-remainder (length ws) (of_member ws) s.args.amount (some-weight (goal.at.cut_of-cut-requires s).Start) _ _ r _ d.floors-yen.ensures.value }
 
-hand-out-requires : tie.Need-hand-out-requires
-hand-out-requires c κs =
-    let d = c.before.before.before.before.before.before.before in
-    let s = d.before.before.before.before.before in
+pub hand_out-requires : goal.hand_out-requires
+hand_out-requires c = let d = c in
+    let s = d in
     let ws = s.args.weights.now in
-    let f = d.floors.ensures.1.1 in
-    let r = d.floors.ensures.1.0 in (
-      rw (f, length-listed (length ws) (λ i. pos (floor_of (length ws) (of_member ws) s.args.amount i)))
-          (room (length ws) (of_member ws) s.args.amount (some-weight s) _ _ r s.requires.1.1.1.1.1),
-      rw f (within (length ws) (of_member ws) s.args.amount (some-weight s) s.requires.1.0),
-    )
+    let f = d.floors-yen.ensures.out_after in
+    let r = d.floors-yen.ensures.remainders_after in record {
+      fact_1 = rw (f, length-listed (length ws) (λ i. pos (floor_of (length ws) (of_member ws) s.args.amount i)))
+          (room (length ws) (of_member ws) s.args.amount (some-weight (goal.at.hand_out-requires s).Start) _ _ r s.requires.sum_nonzero_2);
+      fact_2 = rw f (within (length ws) (of_member ws) s.args.amount (some-weight (goal.at.hand_out-requires s).Start) s.requires.weights_2);
+    }
 
-same_length : tie.Need-same-length
-same_length c = search rules
-
-same-length-2 : tie.Need-same-length-2
-same-length-2 c = search rules
-
-returns : tie.Need-returns
+pub returns : goal.returns
 returns c =
-    let k = c.before.before.before.before in
-    let d = k.before.before.before.before.before in
-    let s = d.before.before.before.before.before in
+    let k = c in
+    let d = k in
+    let s = d in
     let ws = s.args.weights.now in
-    let e = d.floors.ensures in
-    shared (length ws) (of_member ws) s.args.amount (some-weight s) _ _ e.1.0 _ _ _ e.0 k.cut_of.ensures _ _ e.1.1 c.before.hand-out.ensures
-
-pub share-with-spec : {M : Type 1} → statement M
-share-with-spec =
-    tie.close
-    (tie.spec floors-requires cut-of-requires hand-out-requires same_length same-length-2 returns)
+    let e = d.floors-yen.ensures in
+    shared (length ws) (of_member ws) s.args.amount (some-weight (goal.at.returns s).Start) _ _ e.remainders_after _ _ _ e.value k.cut_of-cut.ensures _ _ e.out_after c.hand_out.ensures
