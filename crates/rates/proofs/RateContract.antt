@@ -18,7 +18,7 @@ answers_set =
 
 -- the parameters at entry are a: the two windows, and the number and the rate that are written, which z has at exit. The result is a list handed back
 abbrev pub ratings : Contract governing.ended
-ratings = record { clauses = λ _. governing.clauses }
+ratings = record { clauses = λ _ _. governing.clauses }
 
 pub governing_says : Says ratings (λ _ a r z. (z.1.1.0.now, z.1.1.1.0.now, part_of r) ≡ rated a.0 a.1.0)
 governing_says = record { its_clauses = λ _. refl; one_proof = λ _ _ _ _. answers_set _ _ }

@@ -1,6 +1,6 @@
 -- How a root is found: a number from 2^24 up to below 2^26 by a line near its root and one step of Heron's, any smaller one by moving it up there and its root
 -- back. Words for contracts behind the call. Assumes nothing.
-use Rattle.std.specs.Prelude.{◌≡◌, true, false, ℕ, suc, ◌+◌, ◌*◌, ◌-◌, ◌/◌, ◌%◌, ◌^◌, ◌≤◌, ◌<◌, leb}
+use Rattle.std.specs.Prelude.{◌≡◌, ℕ, suc, ◌+◌, ◌*◌, ◌-◌, ◌/◌, ◌%◌, ◌^◌, ◌≤◌, ◌<◌, leb}
 use Rattle.std.proofs.Common.{subst, ap, ◌∙◌, ⊎_elim, mul-le-mul, le_trans, le_of_eq, one-mul, mod-eq_of_lt, div-mul-le_self, div-lt_iff_lt-mul, arith, pow-add, pow_mono, shl_lt, shl_exact, leb-true, leb-false}
 use Rattle.std.specs.Int.Count.{count_leading_zeros}
 use Rattle.std.proofs.lemmas.Nat.{leading_top}

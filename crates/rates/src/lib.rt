@@ -1,5 +1,6 @@
 // Margin rates from price history (request M-105; source 001, article 4).
 #![tactic(auto)]
+
 ghost use Rattle.std.specs.Prelude.{◌≡◌, ◌&&◌, leb};
 ghost use Prim.Native.Nat as N;
 ghost use Rattle.rates.specs.MarginRate.{most_count, rated, part_of};
