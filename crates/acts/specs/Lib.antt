@@ -9,11 +9,4 @@
 pub mod Requests
 pub mod Trade
 pub mod Run
-pub mod OneAccount
-pub mod RequestsLaws
-pub mod TradeLaws
-pub mod RunLaws
-pub mod StepLaws
-pub mod ActsKeep
 pub mod WithdrawalLaws
-pub mod FormerQuestion

@@ -16,7 +16,7 @@ use Rattle.soundness.specs.Sound.{places_ok}
 use Rattle.soundness.specs.SoundLaws.{Ledger}
 use Rattle.soundness.specs.Perform.{refuse, refuse_question}
 use Rattle.soundness.specs.Keep.{After, ledger_called}
-use Rattle.acts.specs.ActsKeep.{deposit-keeps, withdraw_keeps, guarantee-keeps, trade-keeps, begin-keeps, step_keeps}
+use Rattle.acts.proofs.ActsKeep.{deposit-keeps, withdraw_keeps, guarantee-keeps, trade-keeps, begin-keeps, step_keeps}
 use Rattle.acts.specs.Requests.{question_rule}
 use Rattle.closing.specs.CloseKeeps.{close-keeps}
 use Rattle.dayfile.specs.CallLines.{Call, deposit, withdrawal, guarantee, begin, step, trade, close, none, column}

@@ -3,9 +3,9 @@ use Rattle.std.specs.Prelude.{◌≢◌, ℕ, ◌+◌}
 use Rattle.std.proofs.Common.{arith}
 use Rattle.places.specs.Place.{head, prod, acct, held}
 use Rattle.places.specs.Footprint.{Footprint, Apart}
-use Rattle.acts.specs.OneAccount.{own, nothing}
-use Rattle.acts.specs.TradeLaws.{trading}
-use Rattle.acts.specs.RunLaws.{beginning, stepping}
+use Rattle.acts.proofs.OneAccount.{own, nothing}
+use Rattle.acts.proofs.TradeLaws.{trading}
+use Rattle.acts.proofs.RunLaws.{beginning, stepping}
 
 pub nothing_any : (F : Footprint) → Apart nothing F
 nothing_any F q = (λ h k. h, λ h k. k)

@@ -13,7 +13,7 @@ use Rattle.soundness.specs.Sound.{sound, places_ok}
 use Rattle.soundness.specs.SoundLaws.{sound_facts}
 use Rattle.soundness.specs.Perform.{replies, refuse}
 use Rattle.acts.specs.Run.{begin_rule}
-use Rattle.acts.specs.RunLaws.{beginning, begin-of, begin_accepted}
+use Rattle.acts.proofs.RunLaws.{beginning, begin-of, begin_accepted}
 use Rattle.stretches.specs.Stretch.{Stretch, early, run, late, rank, only}
 use Rattle.stretches.specs.Sort.{sort}
 use Rattle.stretches.specs.History.{Answer, said, told, Event, asks, trade, transfer, begin, close, happens, waits, phase_of, stretch, Until, Refused, transfers, made, transfers_in, events_of, words_after_all, last_stretch, after_run, ThreeStretches}

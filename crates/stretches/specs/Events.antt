@@ -12,11 +12,11 @@ use Rattle.soundness.specs.Perform.{refuse, refuse_question}
 use Rattle.acts.specs.Requests.{deposit_act, withdraw_act, guarantee_act, question_act, deposit_rule, withdraw_rule, guarantee_rule, question_rule}
 use Rattle.acts.specs.Trade.{trade_rule}
 use Rattle.acts.specs.Run.{begin_rule, step_rule}
-use Rattle.acts.specs.OneAccount.{own, nothing, request_of, request_none}
-use Rattle.acts.specs.RequestsLaws.{deposit_proper, withdraw_proper, guarantee_proper, question_proper}
-use Rattle.acts.specs.TradeLaws.{trading, trade-of}
-use Rattle.acts.specs.RunLaws.{beginning, stepping, begin-of, begin-turn, begin-same}
-use Rattle.acts.specs.StepLaws.{step_of, step-turn, step-next, step_past}
+use Rattle.acts.proofs.OneAccount.{own, nothing, request_of, request_none}
+use Rattle.acts.proofs.RequestsLaws.{deposit_proper, withdraw_proper, guarantee_proper, question_proper}
+use Rattle.acts.proofs.TradeLaws.{trading, trade-of}
+use Rattle.acts.proofs.RunLaws.{beginning, stepping, begin-of, begin-turn, begin-same}
+use Rattle.acts.proofs.StepLaws.{step_of, step-turn, step-next, step_past}
 use Rattle.stretches.specs.Apart.{nothing_any, own-own, own-step, own-begin, trade-own, trade-step, trade-begin}
 use Rattle.stretches.specs.Stretch.{early, run, late, idle, rank}
 use Rattle.stretches.specs.Sort.{Swap, Lawful}

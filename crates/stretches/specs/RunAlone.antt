@@ -17,8 +17,8 @@ use Rattle.soundness.specs.Sound.{sound, places_ok}
 use Rattle.soundness.specs.SoundLaws.{sound_facts}
 use Rattle.soundness.specs.Perform.{replies, refuse}
 use Rattle.acts.specs.Run.{begin_rule, step_rule}
-use Rattle.acts.specs.RunLaws.{BeginPuts, beginning, begin-of}
-use Rattle.acts.specs.StepLaws.{Stepped, stepped, stepped_word, step-answer}
+use Rattle.acts.proofs.RunLaws.{BeginPuts, beginning, begin-of}
+use Rattle.acts.proofs.StepLaws.{Stepped, stepped, stepped_word, step-answer}
 use Rattle.stretches.specs.Stretch.{early, run, late, rank, only}
 use Rattle.stretches.specs.History.{said, Event, asks, trade, transfer, begin, close, happens, waits, phase_of, stretch, answers_to, heard_in, words_after_all, Until, transfers, made, transfers_in}
 use Rattle.stretches.specs.Leaves.{stepped_from, Stands, Settled, LeftIn}

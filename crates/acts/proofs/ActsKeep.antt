@@ -12,11 +12,11 @@ use Rattle.soundness.specs.Keep.{Safe, safe_of, After, ledger-kept}
 use Rattle.acts.specs.Requests.{deposit_act, withdraw_act, guarantee_act, question_act, deposit_rule, withdraw_rule, guarantee_rule, question_rule}
 use Rattle.acts.specs.Trade.{trade_rule}
 use Rattle.acts.specs.Run.{begin_rule, step_rule}
-use Rattle.acts.specs.OneAccount.{request_safe}
-use Rattle.acts.specs.RequestsLaws.{deposit_proper, withdraw_proper, guarantee_proper, question_proper}
-use Rattle.acts.specs.TradeLaws.{trading, trade-of}
-use Rattle.acts.specs.RunLaws.{beginning, stepping, begin-of}
-use Rattle.acts.specs.StepLaws.{step_of}
+use Rattle.acts.proofs.OneAccount.{request_safe}
+use Rattle.acts.proofs.RequestsLaws.{deposit_proper, withdraw_proper, guarantee_proper, question_proper}
+use Rattle.acts.proofs.TradeLaws.{trading, trade-of}
+use Rattle.acts.proofs.RunLaws.{beginning, stepping, begin-of}
+use Rattle.acts.proofs.StepLaws.{step_of}
 
 module _ (L : Layout) (W : List ℤ) (e : sound L W ≡ true) where
   pub deposit_safe : (a x : ℤ) → Safe L W (deposit_rule a x)

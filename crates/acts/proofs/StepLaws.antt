@@ -20,7 +20,7 @@ use Rattle.soundness.specs.Perform.{replies, refuse}
 use Rattle.soundness.specs.SoundLaws.{Facts, sound_facts, facts_kept}
 use Rattle.soundness.specs.Keep.{left_at, account-same, stays_same}
 use Rattle.acts.specs.Run.{step_puts, step_rule}
-use Rattle.acts.specs.RunLaws.{stepping, OffTrades, off_trades}
+use Rattle.acts.proofs.RunLaws.{stepping, OffTrades, off_trades}
 
 -- house after this step, and after each step still to come
 next-stays : (n t : ℕ) (h : ℤ) (g : View) → 1 ≤ t → t ≤ n → stays (n + 1 - t) h (t - 1) g ≡ true

@@ -10,7 +10,7 @@ use Rattle.rules.specs.declared.Taken.{Taken}
 use Rattle.places.specs.Place.{Put, acct, ◌≔◌}
 use Rattle.places.specs.PlaceLaws.{Each}
 use Rattle.acts.specs.Requests.{when_taken, deposit_act, withdraw_act, guarantee_act, question_act}
-use Rattle.acts.specs.OneAccount.{OwnPuts, InOrder, Proper}
+use Rattle.acts.proofs.OneAccount.{OwnPuts, InOrder, Proper}
 
 -- ---- puts of the words 1 to 3 of an account, cash, guarantee and cap, are its own
 
