@@ -1,6 +1,6 @@
 -- The calls (01): `D a x`, `W a x`, `G a guarantee cap`, `B`, `S`, `T buyer seller product lots price`, `C` with price, 8-week rate,
 -- 104-week rate and lag per product. A call is a letter and its figures.
-use Rattle.std.specs.Prelude.{cond, List, [], ◌∷◌, ℕ, zero, suc, ◌+◌, ◌*◌, ltb, eqb, ℤ, pos, get_or, drop}
+use Rattle.std.specs.Prelude.{cond, List, [], ◌∷◌, ℕ, zero, suc, ◌+◌, ◌*◌, ltb, eqb, ℤ, get_or, drop}
 use Prim.Native.Char.{code}
 use Rattle.whole.specs.Counting.{figure_at}
 use Rattle.places.specs.Act.{most_products}

@@ -2,6 +2,7 @@
 // `sections` has all but the calls. What reads a line takes a text and a place in it, and gives the next place, or LOST. The number of a line goes
 // up only past a good line, so that the first bad one needs no search.
 #![tactic(auto)]
+
 mod body;
 pub mod reader;
 mod sections;

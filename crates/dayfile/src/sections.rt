@@ -121,7 +121,7 @@ fn position_line(
 ) -> usize
     requires fact_1 { Sized (record { n = n; p = p }) words.old }
     requires fact_2 { most_held ≤ length marks.old }
-    ensures { Positioned (position_at text.now (record { n = n; p = p }) at (record { words = words.entry.now; marks = marks.old })) result words.exit.now marks.new }
+    ensures { Positioned (position_at text.now (record { n = n; p = p }) at (record { words = words.old; marks = marks.old })) result words.new marks.new }
 {
     let h = position_there(text, at);
     let account = h.account;
@@ -160,7 +160,7 @@ pub fn positions(
     requires fact_1 { first + count < 18446744073709551616 }
     requires fact_2 { Sized s words.old }
     requires fact_3 { most_held ≤ length marks.old }
-    ensures { AllPositioned (positions_from text.now from first s count (record { words = words.entry.now; marks = marks.old })) result words.exit.now marks.new }
+    ensures { AllPositioned (positions_from text.now from first s count (record { words = words.old; marks = marks.old })) result words.new marks.new }
 {
     let n = s.n;
     let p = s.p;
