@@ -1,6 +1,7 @@
 // The ledger's calls on the words (01, "The day"). Each entry point takes any list of words and any figures: it refuses what is not a sound
 // ledger with 1, and else hands the words to the function behind the gate, which does not test them again.
 #![tactic(auto)]
+
 ghost use Rattle.std.specs.Prelude.{◌≡◌};
 ghost use Rattle.places.specs.ByAccount.{by_account};
 ghost use Rattle.soundness.specs.Perform.{perform, ask};
