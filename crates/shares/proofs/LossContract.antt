@@ -20,7 +20,7 @@ losses-set =
 
 -- the parameters at entry are a: the loss, deposits, differences and marks, and the two lists lent for the shares, which z has at exit
 abbrev pub losses : Contract share_loss.ended
-losses = record { clauses = λ _. share_loss.clauses }
+losses = record { clauses = λ _ _. share_loss.clauses }
 
 pub share_loss_says : Says losses
     (λ _ a r z. (r, z.1.1.1.1.0.now, z.1.1.1.1.1.0.now)

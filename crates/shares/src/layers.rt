@@ -10,6 +10,7 @@ use portions::share;
 use whole::up;
 
 // What a member weighs in a layer: a survivor's figure, where it is positive. A defaulter weighs nothing.
+#[tactic(auto, unfolding(crate::specs::Loss::weight_of))]
 fn weight_of(mark: i64, figure: i64) -> u64
     ensures { result ≡ L.weight_of mark figure }
 {
@@ -20,6 +21,7 @@ fn weight_of(mark: i64, figure: i64) -> u64
 }
 
 // A defaulter's negative difference, in absolute value. A survivor's counts for nothing.
+#[tactic(auto, unfolding(crate::specs::Loss::negative_of))]
 fn negative_of(mark: i64, difference: i64) -> u64
     requires { nat_abs difference ≤ L.most_figure }
     ensures { result ≡ L.negative_of mark difference }

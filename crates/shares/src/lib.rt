@@ -1,5 +1,6 @@
 // Sharing a default loss among the members (document 01, "Sharing a default loss"; source 000, article 12-7(2)).
 #![tactic(auto)]
+
 ghost use Rattle.std.specs.Prelude.{◌≡◌};
 ghost use Rattle.shares.specs.Loss as L;
 

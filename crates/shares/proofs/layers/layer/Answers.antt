@@ -14,9 +14,8 @@ use Rattle.portions.specs.ShareLaws.{share-same}
 use Rattle.portions.specs.Bounds.{Weights, most_members, most_weight}
 use Rattle.shares.specs.Loss.{weight, layer, bears, layer_shares, most_figure}
 use Rattle.shares.specs.LossLaws.{weight-most, layer-most}
-use borrow.Author.Rules.{rules}
-use Rattle.shares.proofs.layers.layer.Statement.{statement}
-use Rattle.shares.proofs.layers.layer.Tie as tie
+use Rattle.shares.proofs.layers.layer.Goals.{After-least-amount}
+use Rattle.shares.proofs.layers.layer.Goals as goal
 
 module _ (marks figures : List ℤ) (ws : List ℕ) (e : ws ≡ listed (length figures) (weight marks figures)) where
   abbrev n : ℕ
@@ -48,46 +47,21 @@ module _ (marks figures : List ℤ) (ws : List ℕ) (e : ws ≡ listed (length f
       (λ i. pos (bears most marks figures i))
       (λ i b. ap pos (share-same n (of_member ws) (weight marks figures) (layer most marks figures) each-weight i b)))
 
-weigh-requires : tie.Need-weigh-requires
-weigh-requires c κs = search rules
-
-least-requires : tie.Need-least-requires
-least-requires c κs = search rules
-
 -- how large the layer is
-amount-is : (c : tie.After-least) →
-    let s = c.before.before.before.before.before.before in
-    c.least.result ≡ layer s.args.most s.args.marks.now s.args.figures.now
+amount-is : (c : After-least-amount) →
+    let s = c in
+    c.least-amount.result ≡ layer s.args.most s.args.marks.now s.args.figures.now
 unfolding layer
-amount-is c = c.least.ensures ∙ rw c.before.before.before.weigh.ensures.0 refl
+amount-is c = c.least-amount.ensures ∙ rw c.weigh-sum.ensures.value refl
 
-share-requires : tie.Need-share-requires
-share-requires c κs =
-    let s = c.before.before.before.before.before.before.before.before in
-    let w = c.before.before.before.before.before.weigh.ensures in
+pub share-requires : goal.share-requires
+share-requires c = let s = c in
+    let w = c.weigh-sum.ensures in
     let m = s.args.marks.now in
-    let f = s.args.figures.now in (
-      weights-ok m f _ w.1 s.requires.1.1.1.0 s.requires.1.1.1.1.0,
-      (
-        omega (arith, amount-is c.before.before, layer-most s.args.most m f, s.requires.1.1.1.1.1),
-        (s.requires.1.1.0 ∙ sym (sized m f _ w.1), w.0 ∙ sym (total-is m f _ w.1)),
-      ),
-    )
+    let f = s.args.figures.now in record { fact_1 = weights-ok m f _ w.weights_after s.requires.marks_len_4 s.requires.each_1; fact_2 = omega (arith, amount-is (goal.at.share-requires c).After-least-amount, layer-most s.args.most m f, s.requires.each_2); fact_3 = s.requires.marks_len_3 ∙ sym (sized m f _ w.weights_after); fact_4 = w.value ∙ sym (total-is m f _ w.weights_after) }
 
-same_length : tie.Need-same-length
-same_length c = search rules
-
-same-length-2 : tie.Need-same-length-2
-same-length-2 c = search rules
-
-returns : tie.Need-returns
-returns c =
-    let s = c.before.before.before.before.before.before.before.before.before.before in
-    let w = c.before.before.before.before.before.before.before.weigh.ensures.1 in
-    let a = amount-is c.before.before.before.before in
-    (a, (shares-are s.args.marks.now s.args.figures.now _ w s.args.most _ _ a c.before.share.ensures, w))
-
-pub layer-spec : {M : Type 1} → statement M
-layer-spec =
-    tie.close
-    (tie.spec weigh-requires least-requires share-requires same_length same-length-2 returns)
+pub returns : goal.returns
+returns c = let s = c in
+    let w = c.weigh-sum.ensures.weights_after in
+    let a = amount-is (goal.at.returns c).After-least-amount in
+    record { value = a; out_after = shares-are s.args.marks.now s.args.figures.now _ w s.args.most _ _ a c.share.ensures; weights_after = w }
