@@ -20,7 +20,7 @@ says_prop rule before x r after = ×_prop (Coded-set (ReplyType.the_row).coded _
 
 -- the parameters at entry are a: the record, which z has at exit, and the amount
 abbrev pub window_deposits : Contract deposit.ended
-window_deposits = record { clauses = λ _. deposit.clauses }
+window_deposits = record { clauses = λ _ _. deposit.clauses }
 
 -- the rule is opened here, so that a contract which spells it out is compared with it
 pub teller_deposit-says : Says window_deposits (λ _ a r z. WindowSays teller_deposit a.0.now a.1.0 r z.0.now)
@@ -28,7 +28,7 @@ unfolding teller_deposit
 teller_deposit-says = record { its_clauses = λ _. refl; one_proof = λ _ a r z. says_prop teller_deposit a.0.now a.1.0 r z.0.now }
 
 abbrev pub window_withdrawals : Contract withdraw.ended
-window_withdrawals = record { clauses = λ _. withdraw.clauses }
+window_withdrawals = record { clauses = λ _ _. withdraw.clauses }
 
 pub teller_withdraw_says : Says window_withdrawals (λ _ a r z. WindowSays teller_withdrawal a.0.now a.1.0 r z.0.now)
 teller_withdraw_says = record { its_clauses = λ _. refl; one_proof = λ _ a r z. says_prop teller_withdrawal a.0.now a.1.0 r z.0.now }

@@ -1,6 +1,7 @@
 // The teller window (document 01, "The ledger's words": deposits and withdrawals "on a single account record lent for change"). Each is the by-value
 // rule of `rules::calls` on the record that is lent, whatever its figures: the lowest number that applies is answered, and a refusal leaves the record.
 #![tactic(auto)]
+
 ghost use Rattle.std.specs.Prelude.{◌≡◌};
 ghost use Rattle.rules.specs.AccountCalls.{teller_deposit, teller_withdrawal, reply_of};
 
