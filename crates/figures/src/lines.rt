@@ -1,45 +1,51 @@
 // A figure's line: its name, what came, `=`, and what the paper says; a call's answer is its number and its figure. The calls are made on records
 // of which nothing is known, so each tests first what its rule asks.
-use libc::STDOUT_FILENO;
 use rules::{Account, Standing, Taken, accounts, calls};
+use std::io;
 
 // ---- printing
 
-pub fn text(bytes: &[u8]) {
-    io::write_all(STDOUT_FILENO, bytes);
+pub fn text(rt: &impl Print, bytes: &[u8]) -> io::Result<()> {
+    rt.write_all(bytes)
 }
 
-pub fn number(x: i64) {
+pub fn number(rt: &impl Print, x: i64) -> io::Result<()> {
     if x < 0 {
-        text(b"-");
+        text(rt, b"-")?;
     }
-    io::print_decimal(STDOUT_FILENO, whole::nat_abs(x));
+    rt.print(whole::nat_abs(x))
 }
 
-pub fn show(name: &[u8], came: i64, expected: i64) {
-    text(name);
-    text(b": ");
-    number(came);
-    text(b" = ");
-    number(expected);
-    text(b"\n");
+pub fn show(rt: &impl Print, name: &[u8], came: i64, expected: i64) -> io::Result<()> {
+    text(rt, name)?;
+    text(rt, b": ")?;
+    number(rt, came)?;
+    text(rt, b" = ")?;
+    number(rt, expected)?;
+    text(rt, b"\n")
 }
 
-fn answer(refusal: u64, figure: i64) {
-    io::print_decimal(STDOUT_FILENO, refusal);
-    text(b" ");
-    number(figure);
+fn answer(rt: &impl Print, refusal: u64, figure: i64) -> io::Result<()> {
+    rt.print(refusal)?;
+    text(rt, b" ")?;
+    number(rt, figure)
 }
 
-fn show_call(name: &[u8], came: Taken, refusal: u64, figure: i64) {
+fn show_call(
+    rt: &impl Print,
+    name: &[u8],
+    came: Taken,
+    refusal: u64,
+    figure: i64,
+) -> io::Result<()> {
     let n = came.number;
     let f = came.figure;
-    text(name);
-    text(b": ");
-    answer(n, f);
-    text(b" = ");
-    answer(refusal, figure);
-    text(b"\n");
+    text(rt, name)?;
+    text(rt, b": ")?;
+    answer(rt, n, f)?;
+    text(rt, b" = ")?;
+    answer(rt, refusal, figure)?;
+    text(rt, b"\n")
 }
 
 // ---- accounts
@@ -88,30 +94,56 @@ fn question(account: Account) -> Standing {
     }
 }
 
-pub fn limit(name: &[u8], account: Account, expected: i64) {
+pub fn limit(rt: &impl Print, name: &[u8], account: Account, expected: i64) -> io::Result<()> {
     let standing = question(account);
     let came = standing.limit;
-    show(name, came, expected);
+    show(rt, name, came, expected)
 }
 
-pub fn first(name: &[u8], account: Account, expected: i64) {
+pub fn first(rt: &impl Print, name: &[u8], account: Account, expected: i64) -> io::Result<()> {
     let standing = question(account);
     let came = standing.first;
-    show(name, came, expected);
+    show(rt, name, came, expected)
 }
 
-pub fn second(name: &[u8], account: Account, expected: i64) {
+pub fn second(rt: &impl Print, name: &[u8], account: Account, expected: i64) -> io::Result<()> {
     let standing = question(account);
     let came = standing.second;
-    show(name, came, expected);
+    show(rt, name, came, expected)
 }
 
-pub fn deposit(name: &[u8], account: Account, x: i64, refusal: u64, figure: i64) {
-    show_call(name, teller::deposit_by_value(account, x), refusal, figure);
+pub fn deposit(
+    rt: &impl Print,
+    name: &[u8],
+    account: Account,
+    x: i64,
+    refusal: u64,
+    figure: i64,
+) -> io::Result<()> {
+    show_call(
+        rt,
+        name,
+        teller::deposit_by_value(account, x),
+        refusal,
+        figure,
+    )
 }
 
-pub fn withdrawal(name: &[u8], account: Account, x: i64, refusal: u64, figure: i64) {
-    show_call(name, teller::withdraw_by_value(account, x), refusal, figure);
+pub fn withdrawal(
+    rt: &impl Print,
+    name: &[u8],
+    account: Account,
+    x: i64,
+    refusal: u64,
+    figure: i64,
+) -> io::Result<()> {
+    show_call(
+        rt,
+        name,
+        teller::withdraw_by_value(account, x),
+        refusal,
+        figure,
+    )
 }
 
 fn guarantee(account: Account, value: i64, cap: i64) -> Taken {
@@ -125,8 +157,16 @@ fn guarantee(account: Account, value: i64, cap: i64) -> Taken {
     }
 }
 
-pub fn guaranteed(name: &[u8], account: Account, value: i64, cap: i64, refusal: u64, figure: i64) {
-    show_call(name, guarantee(account, value, cap), refusal, figure);
+pub fn guaranteed(
+    rt: &impl Print,
+    name: &[u8],
+    account: Account,
+    value: i64,
+    cap: i64,
+    refusal: u64,
+    figure: i64,
+) -> io::Result<()> {
+    show_call(rt, name, guarantee(account, value, cap), refusal, figure)
 }
 
 pub fn transfer(account: Account) -> Account {
@@ -136,7 +176,7 @@ pub fn transfer(account: Account) -> Account {
     account
 }
 
-pub fn unsound(name: &[u8], account: Account) {
-    deposit(name, account, 1, 1, 0);
-    withdrawal(name, account, 1, 1, 0);
+pub fn unsound(rt: &impl Print, name: &[u8], account: Account) -> io::Result<()> {
+    deposit(rt, name, account, 1, 1, 0)?;
+    withdrawal(rt, name, account, 1, 1, 0)
 }
