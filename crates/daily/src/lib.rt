@@ -1,6 +1,7 @@
 // The figures of a close (01, "The day", Close, and "The margin rules"): the tests of its four lists, the new dues of an account, and the margin of a lot
 // of a product. Figures are read by place from the ledger's words.
 #![tactic(auto)]
+
 ghost use Rattle.std.specs.Prelude.{◌≡◌, ◌<◌, ◌≤◌, pos, nat_abs, length};
 ghost use Rattle.whole.specs.Number.{between};
 ghost use Rattle.whole.specs.Counting.{all, listed};
