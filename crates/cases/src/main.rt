@@ -1,6 +1,7 @@
 // Runs the cases on file that another program of the rules wrote with the replies it gives: every number, figure and checksum of the words
 // at exit is compared. Prints of each kind how many cases there are, and how many came out otherwise.
 #![tactic(auto)]
+
 mod reading; // the lists and figures of a line
 mod sums; // the checksum of words
 mod ledgers; // the calls on a ledger
@@ -10,10 +11,11 @@ mod windows; // margin rates from price history
 mod tellers; // the teller's window
 mod sheets; // the sheet of a text
 
-ghost use Rattle.std.specs.Prelude.{◌<◌, ◌≤◌, length};
+ghost use Rattle.std.specs.Prelude.{◌<◌, ◌≤◌, length, IfOk};
 
-use libc::{STDIN_FILENO, STDOUT_FILENO};
 use lines::LONGEST;
+use std::io;
+use std::io::Read;
 
 // Of one kind: how many cases, and how many that came out otherwise.
 #[derive(Drop)]
@@ -96,56 +98,55 @@ fn counted(text: &[u8], kind: u8) -> Count {
     Count { cases, wrong }
 }
 
-fn print_count(n: u64, what: &[u8]) {
-    io::print_decimal(STDOUT_FILENO, n);
-    io::write_all(STDOUT_FILENO, what);
+fn print_count(rt: &impl Print, n: u64, what: &[u8]) -> io::Result<()> {
+    rt.print(n)?;
+    rt.write_all(what)
 }
 
-fn print_kind(text: &[u8], kind: u8, name: &[u8]) {
+fn print_kind(rt: &impl Print, text: &[u8], kind: u8, name: &[u8]) -> io::Result<()> {
     let c = counted(text, kind);
-    io::write_all(STDOUT_FILENO, name);
-    print_count(c.cases, b" cases, ");
-    print_count(c.wrong, b" differences\n");
+    rt.write_all(name)?;
+    print_count(rt, c.cases, b" cases, ")?;
+    print_count(rt, c.wrong, b" differences\n")
 }
 
-fn print_requests(text: &[u8]) {
-    print_kind(text, b'D', b"deposit: ");
-    print_kind(text, b'W', b"withdrawal: ");
-    print_kind(text, b'G', b"guarantee: ");
-    print_kind(text, b'Q', b"question: ");
-    print_kind(text, b'T', b"trade: ");
+fn print_requests(rt: &impl Print, text: &[u8]) -> io::Result<()> {
+    print_kind(rt, text, b'D', b"deposit: ")?;
+    print_kind(rt, text, b'W', b"withdrawal: ")?;
+    print_kind(rt, text, b'G', b"guarantee: ")?;
+    print_kind(rt, text, b'Q', b"question: ")?;
+    print_kind(rt, text, b'T', b"trade: ")
 }
 
-fn print_rest(text: &[u8]) {
-    print_kind(text, b'B', b"begin: ");
-    print_kind(text, b'S', b"step: ");
-    print_kind(text, b'C', b"close: ");
-    print_kind(text, b'H', b"sharing: ");
-    print_kind(text, b'M', b"margin rate: ");
-    print_kind(text, b'P', b"teller's deposit: ");
-    print_kind(text, b'R', b"teller's withdrawal: ");
-    print_kind(text, b'X', b"sheet: ");
+fn print_rest(rt: &impl Print, text: &[u8]) -> io::Result<()> {
+    print_kind(rt, text, b'B', b"begin: ")?;
+    print_kind(rt, text, b'S', b"step: ")?;
+    print_kind(rt, text, b'C', b"close: ")?;
+    print_kind(rt, text, b'H', b"sharing: ")?;
+    print_kind(rt, text, b'M', b"margin rate: ")?;
+    print_kind(rt, text, b'P', b"teller's deposit: ")?;
+    print_kind(rt, text, b'R', b"teller's withdrawal: ")?;
+    print_kind(rt, text, b'X', b"sheet: ")
 }
 
 // Reads until the input ends or `text` is full; how many bytes came.
-fn read_text(text: &mut [u8]) -> usize
-    ensures { result ≤ length text.old }
+fn read_text(source: &mut impl Read, text: &mut [u8]) -> io::Result<usize>
+    ensures { IfOk result (λ n. n ≤ length text.old) }
 {
     let mut size = 0;
     while size < text.len() {
-        let got = libc::read(STDIN_FILENO, &mut text[size..]);
-        let more = io::count(got, &text[size..]);
+        let more = source.read(&mut text[size..])?;
         if more == 0 {
-            return size;
+            return Ok(size);
         }
         size += more;
     }
-    size
+    Ok(size)
 }
 
-fn main() {
+fn main(rt: HostRuntime) -> io::Result<()> {
     let mut text = [0u8; 196608];
-    let size = read_text(&mut text);
-    print_requests(&text[..size]);
-    print_rest(&text[..size]);
+    let size = read_text(&mut rt.stdin(), &mut text)?;
+    print_requests(&rt, &text[..size])?;
+    print_rest(&rt, &text[..size])
 }

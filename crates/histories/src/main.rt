@@ -2,7 +2,8 @@
 // again in three stretches on the same start; every answer and every word at the end is compared. Prints how many histories, events and
 // differences there were, and how many events of each stretch.
 #![tactic(auto)]
-use libc::STDOUT_FILENO;
+
+use std::io;
 
 mod chance;
 mod events;
@@ -10,14 +11,14 @@ mod start;
 
 const HISTORIES: u64 = 4000;
 
-fn text(bytes: &[u8]) {
-    io::write_all(STDOUT_FILENO, bytes);
+fn text(rt: &impl Print, bytes: &[u8]) -> io::Result<()> {
+    rt.write_all(bytes)
 }
 
-fn show(name: &[u8], count: u64) {
-    text(name);
-    io::print_decimal(STDOUT_FILENO, count);
-    text(b"\n");
+fn show(rt: &impl Print, name: &[u8], count: u64) -> io::Result<()> {
+    text(rt, name)?;
+    rt.print(count)?;
+    text(rt, b"\n")
 }
 
 // In how many respects a history as it came and in three stretches differs, 0 to 6: the start's soundness, the answers of each stretch and of the
@@ -52,17 +53,17 @@ fn total(which: u64) -> u64 {
     sum
 }
 
-fn main() {
+fn main(rt: HostRuntime) -> io::Result<()> {
     let mut sum: u64 = 0;
     let mut seed: u64 = 0;
     while seed < HISTORIES {
         sum += differences(seed) % 1024;
         seed += 1;
     }
-    show(b"histories: ", HISTORIES);
-    show(b"early requests: ", total(events::EARLY));
-    show(b"transfers: ", total(events::RUN));
-    show(b"late requests: ", total(events::LATE));
-    show(b"attempts to begin or close: ", total(events::IDLE));
-    show(b"differences: ", sum);
+    show(&rt, b"histories: ", HISTORIES)?;
+    show(&rt, b"early requests: ", total(events::EARLY))?;
+    show(&rt, b"transfers: ", total(events::RUN))?;
+    show(&rt, b"late requests: ", total(events::LATE))?;
+    show(&rt, b"attempts to begin or close: ", total(events::IDLE))?;
+    show(&rt, b"differences: ", sum)
 }

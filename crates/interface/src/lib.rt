@@ -1,6 +1,7 @@
 // The C interface: the entry points under the names that include/heidbummen.h declares. A slice is a pointer and a length. Each function has
 // the contract of the one below it, and asks nothing beforehand.
 #![tactic(auto)]
+
 ghost use Rattle.std.specs.Prelude.{◌≡◌};
 ghost use Rattle.places.specs.ByAccount.{by_account};
 ghost use Rattle.soundness.specs.Perform.{perform, ask};

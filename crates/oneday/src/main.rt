@@ -2,11 +2,11 @@
 // line for each call: what was asked, what came, and what document 01 gives, worked out apart; at the end the words that differ from those of
 // 01, counted.
 #![tactic(auto)]
-use libc::STDOUT_FILENO;
 
 mod lines;
 
 use lines::{begin, close, deposit, guarantee, question, step, trade, withdraw};
+use std::io;
 
 // Two brokers and a provider; two yen products, the second with the floor mark, and their cross.
 fn first_words() -> [i64; 61] {
@@ -83,30 +83,31 @@ fn last_words() -> [i64; 61] {
     ]
 }
 
-fn opening(words: &mut [i64]) {
-    deposit(words, 0, 500000, 0, 3500000);
-    withdraw(words, 1, 2000001, 11, 2000000);
-    guarantee(words, 1, 400000, 300000, 0, 300000);
-    question(words, 1, 0, 2000000, 0, 0);
+fn opening(rt: &impl Print, words: &mut [i64]) -> io::Result<()> {
+    deposit(rt, words, 0, 500000, 0, 3500000)?;
+    withdraw(rt, words, 1, 2000001, 11, 2000000)?;
+    guarantee(rt, words, 1, 400000, 300000, 0, 300000)?;
+    question(rt, words, 1, 0, 2000000, 0, 0)
 }
 
-fn trades(words: &mut [i64]) {
-    trade(words, 0, 2, 0, 30, 1502500, 0, 0);
-    trade(words, 2, 1, 2, 10, 10850, 0, 0);
-    trade(words, 0, 2, 1, 7, 1600003, 0, 0);
-    trade(words, 0, 1, 0, 1, 1, 6, 0);
+fn trades(rt: &impl Print, words: &mut [i64]) -> io::Result<()> {
+    trade(rt, words, 0, 2, 0, 30, 1502500, 0, 0)?;
+    trade(rt, words, 2, 1, 2, 10, 10850, 0, 0)?;
+    trade(rt, words, 0, 2, 1, 7, 1600003, 0, 0)?;
+    trade(rt, words, 0, 1, 0, 1, 1, 6, 0)
 }
 
-fn trades_refused(words: &mut [i64]) {
-    trade(words, 1, 2, 2, 1, 200001, 8, 0);
-    trade(words, 0, 2, 0, 1000000, 5000000, 9, 0);
-    trade(words, 0, 3, 0, 1, 1, 3, 0);
-    trade(words, 0, 2, 3, 1, 1, 4, 0);
+fn trades_refused(rt: &impl Print, words: &mut [i64]) -> io::Result<()> {
+    trade(rt, words, 1, 2, 2, 1, 200001, 8, 0)?;
+    trade(rt, words, 0, 2, 0, 1000000, 5000000, 9, 0)?;
+    trade(rt, words, 0, 3, 0, 1, 1, 3, 0)?;
+    trade(rt, words, 0, 2, 3, 1, 1, 4, 0)
 }
 
-fn too_early(words: &mut [i64]) {
-    step(words, 7, 0);
+fn too_early(rt: &impl Print, words: &mut [i64]) -> io::Result<()> {
+    step(rt, words, 7, 0)?;
     close(
+        rt,
         words,
         [1502503, 1600000, 10873],
         [300, 200, 500],
@@ -114,20 +115,21 @@ fn too_early(words: &mut [i64]) {
         [0, 1, 2],
         7,
         0,
-    );
-    begin(words, 0, 0);
-    question(words, 0, 0, 3500000, 0, 0);
+    )?;
+    begin(rt, words, 0, 0)?;
+    question(rt, words, 0, 0, 3500000, 0, 0)
 }
 
-fn empty_run(words: &mut [i64]) {
-    step(words, 0, 0);
-    deposit(words, 0, 1, 0, 3500001);
-    step(words, 0, 1);
-    step(words, 0, 2);
+fn empty_run(rt: &impl Print, words: &mut [i64]) -> io::Result<()> {
+    step(rt, words, 0, 0)?;
+    deposit(rt, words, 0, 1, 0, 3500001)?;
+    step(rt, words, 0, 1)?;
+    step(rt, words, 0, 2)
 }
 
-fn first_close(words: &mut [i64]) {
+fn first_close(rt: &impl Print, words: &mut [i64]) -> io::Result<()> {
     close(
+        rt,
         words,
         [1502503, 1600000, 10873],
         [300, 200, 500],
@@ -135,8 +137,9 @@ fn first_close(words: &mut [i64]) {
         [0, 1, 3],
         8,
         0,
-    );
+    )?;
     close(
+        rt,
         words,
         [1502503, 1600000, 200001],
         [300, 200, 500],
@@ -144,8 +147,9 @@ fn first_close(words: &mut [i64]) {
         [0, 1, 2],
         8,
         0,
-    );
+    )?;
     close(
+        rt,
         words,
         [1502503, 1600000, 10873],
         [300, 200, 500],
@@ -153,39 +157,40 @@ fn first_close(words: &mut [i64]) {
         [0, 1, 2],
         0,
         0,
-    );
+    )
 }
 
-fn after_the_close(words: &mut [i64]) {
-    question(words, 0, 0, 3297447, 0, 0);
-    question(words, 1, 0, 1920000, 0, 0);
-    question(words, 2, 0, 49717430, 0, 0);
-    begin(words, 0, 0);
+fn after_the_close(rt: &impl Print, words: &mut [i64]) -> io::Result<()> {
+    question(rt, words, 0, 0, 3297447, 0, 0)?;
+    question(rt, words, 1, 0, 1920000, 0, 0)?;
+    question(rt, words, 2, 0, 49717430, 0, 0)?;
+    begin(rt, words, 0, 0)
 }
 
-fn in_the_run(words: &mut [i64]) {
-    withdraw(words, 0, 3000000, 0, 500001);
-    trade(words, 1, 2, 0, 5, 1502600, 0, 0);
-    step(words, 0, 0);
-    withdraw(words, 0, 3000000, 11, 297447);
+fn in_the_run(rt: &impl Print, words: &mut [i64]) -> io::Result<()> {
+    withdraw(rt, words, 0, 3000000, 0, 500001)?;
+    trade(rt, words, 1, 2, 0, 5, 1502600, 0, 0)?;
+    step(rt, words, 0, 0)?;
+    withdraw(rt, words, 0, 3000000, 11, 297447)
 }
 
-fn still_in_the_run(words: &mut [i64]) {
-    begin(words, 7, 0);
-    deposit(words, 2, 1000000000000, 0, 1000050000000);
-    step(words, 0, 1);
-    guarantee(words, 2, 0, 0, 6, 0);
+fn still_in_the_run(rt: &impl Print, words: &mut [i64]) -> io::Result<()> {
+    begin(rt, words, 7, 0)?;
+    deposit(rt, words, 2, 1000000000000, 0, 1000050000000)?;
+    step(rt, words, 0, 1)?;
+    guarantee(rt, words, 2, 0, 0, 6, 0)
 }
 
-fn run_done(words: &mut [i64]) {
-    withdraw(words, 2, 1, 0, 1000049999999);
-    step(words, 0, 2);
-    step(words, 7, 0);
-    withdraw(words, 1, 1000000000001, 5, 0);
+fn run_done(rt: &impl Print, words: &mut [i64]) -> io::Result<()> {
+    withdraw(rt, words, 2, 1, 0, 1000049999999)?;
+    step(rt, words, 0, 2)?;
+    step(rt, words, 7, 0)?;
+    withdraw(rt, words, 1, 1000000000001, 5, 0)
 }
 
-fn second_close(words: &mut [i64]) {
+fn second_close(rt: &impl Print, words: &mut [i64]) -> io::Result<()> {
     close(
+        rt,
         words,
         [1400000, 1700000, 11000],
         [10000, 1, 1],
@@ -193,27 +198,27 @@ fn second_close(words: &mut [i64]) {
         [2, 0, 1],
         0,
         0,
-    );
-    begin(words, 0, 0);
-    step(words, 0, 0);
-    question(words, 2, 0, 1000043303797, 0, 0);
+    )?;
+    begin(rt, words, 0, 0)?;
+    step(rt, words, 0, 0)?;
+    question(rt, words, 2, 0, 1000043303797, 0, 0)
 }
 
-fn main() {
+fn main(rt: HostRuntime) -> io::Result<()> {
     let mut words = first_words();
-    opening(&mut words);
-    trades(&mut words);
-    trades_refused(&mut words);
-    too_early(&mut words);
-    empty_run(&mut words);
-    first_close(&mut words);
-    after_the_close(&mut words);
-    in_the_run(&mut words);
-    still_in_the_run(&mut words);
-    run_done(&mut words);
-    second_close(&mut words);
+    opening(&rt, &mut words)?;
+    trades(&rt, &mut words)?;
+    trades_refused(&rt, &mut words)?;
+    too_early(&rt, &mut words)?;
+    empty_run(&rt, &mut words)?;
+    first_close(&rt, &mut words)?;
+    after_the_close(&rt, &mut words)?;
+    in_the_run(&rt, &mut words)?;
+    still_in_the_run(&rt, &mut words)?;
+    run_done(&rt, &mut words)?;
+    second_close(&rt, &mut words)?;
     let last = last_words();
-    io::write_all(STDOUT_FILENO, b"words that differ: ");
-    io::print_decimal(STDOUT_FILENO, tally::altered(&words, &last));
-    io::write_all(STDOUT_FILENO, b"\n");
+    rt.write_all(b"words that differ: ")?;
+    rt.print(tally::altered(&words, &last))?;
+    rt.write_all(b"\n")
 }

@@ -2,81 +2,84 @@
 // names, and prints the sheet on standard output. What is wrong with a bad text, which calls were refused, and why a file can not be read, it
 // says on standard error.
 #![tactic(auto)]
-ghost use Rattle.std.specs.Prelude.{◌≤◌, length};
 
-use libc::{STDERR_FILENO, STDIN_FILENO, STDOUT_FILENO};
+ghost use Rattle.std.specs.Prelude.{◌≤◌, length, IfOk};
 
-// What was read: whether every read went well, and how many bytes came.
-#[derive(Drop)]
-struct Input {
-    good: bool,
-    size: usize,
-}
+use std::env::{Env, FillError};
+use std::io::Read;
+use std::{fs, io};
 
-// Reads until the input ends or `text` is full. A read may give less than was asked for, so that only one that gives nothing ends it.
-fn read_text(fd: i32, text: &mut [u8]) -> Input
-    ensures { result.size ≤ length text.old }
+// Reads until the input ends or `text` is full; how many bytes came. A read may give less than was asked for, so that only one that gives
+// nothing ends it.
+fn read_text(source: &mut impl Read, text: &mut [u8]) -> io::Result<usize>
+    ensures { IfOk result (λ n. n ≤ length text.old) }
 {
     let mut size = 0;
     while size < text.len() {
-        let got = libc::read(fd, &mut text[size..]);
-        if got < 0 {
-            return Input { good: false, size };
-        }
-        let more = io::count(got, &text[size..]);
+        let more = source.read(&mut text[size..])?;
         if more == 0 {
-            return Input { good: true, size };
+            return Ok(size);
         }
         size += more;
     }
-    Input { good: true, size }
+    Ok(size)
+}
+
+// Says on standard error what can not be read or written, and why. Where that can not be said either, nothing is left to say it to.
+fn fail(rt: &HostRuntime, what: &str, why: io::Error) {
+    let _ = eprintln!(rt; "{what}: {why}");
+}
+
+// Why an argument is the name of no file.
+fn no_name(why: &str) -> io::Error {
+    io::Error::new(io::ErrorKind::InvalidFilename, why)
 }
 
 // Says on standard error what is wrong with a bad text, or which calls of a good one were refused.
-fn print_words(text: &[u8], sheet: &[u8]) {
+fn print_words(rt: &HostRuntime, text: &[u8], sheet: &[u8]) {
     let mut words = [0u8; 262144];
     let size = plain::tell(text, sheet, &mut words);
-    io::write_all(STDERR_FILENO, &words[..size]);
+    let _ = rt.stderr().write_all(&words[..size]);
 }
 
 // Prints the sheet of a text.
-fn print_sheet(text: &[u8]) {
+fn print_sheet(rt: &HostRuntime, text: &[u8]) {
     let mut out = [0u8; 65536];
     let size = day::sheet(text, &mut out);
-    if !io::write_all(STDOUT_FILENO, &out[..size]) {
-        os::fail(b"standard output");
+    if let Err(why) = rt.write_all(&out[..size]) {
+        fail(rt, "standard output", why);
     }
-    print_words(text, &out[..size]);
+    print_words(rt, text, &out[..size]);
 }
 
 // Reads a text and prints its sheet. One byte more than a text may have is read, so that an overlong text is seen to be one.
-fn print_day(fd: i32, name: &[u8]) {
+fn print_day(rt: &HostRuntime, source: &mut impl Read, name: &str) {
     let mut text = [0u8; 65537];
-    let got = read_text(fd, &mut text);
-    let size = got.size;
-    if got.good {
-        print_sheet(&text[..size]);
-    } else {
-        os::fail(name);
+    match read_text(source, &mut text) {
+        Ok(size) => print_sheet(rt, &text[..size]),
+        Err(why) => fail(rt, name, why),
     }
 }
 
-fn main() {
-    if os::arg_count() < 2 {
-        print_day(STDIN_FILENO, b"standard input");
-        return;
+// The same of the file of a name.
+fn print_file(rt: &HostRuntime, name: &str) {
+    match fs::open(rt, name) {
+        Ok(file) => {
+            let mut source = file;
+            print_day(rt, &mut source, name);
+        }
+        Err(why) => fail(rt, name, why),
     }
-    let mut path = io::buffer();
-    let size = os::arg(1, &mut path);
-    if os::errno() != 0 {
-        os::fail(b"file name");
-        return;
+}
+
+fn main(rt: HostRuntime) {
+    let mut name = [0u8; 4096];
+    match rt.arg(1, &mut name) {
+        Ok(size) => match str::from_utf8(&name[..size]) {
+            Ok(name) => print_file(&rt, name),
+            Err(_) => fail(&rt, "file name", no_name("not UTF-8")),
+        },
+        Err(FillError::NotPresent) => print_day(&rt, &mut rt.stdin(), "standard input"),
+        Err(FillError::TooLong) => fail(&rt, "file name", no_name("File name too long")),
     }
-    let fd = os::open_read(&path[..size]);
-    if fd < 0 {
-        os::fail(&path[..size]);
-        return;
-    }
-    print_day(fd, &path[..size]);
-    libc::close(fd);
 }

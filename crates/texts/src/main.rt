@@ -2,9 +2,11 @@
 // for each kind of text, with how many texts it has and how many differ; then how many differ in all. The texts, their sheets and what is told
 // beside them are read from standard input (`cases` says how); those of the largest day, and those saved by other habits, are made here.
 #![tactic(auto)]
-ghost use Rattle.std.specs.Prelude.{◌≤◌, ◌<◌, length};
 
-use libc::{STDIN_FILENO, STDOUT_FILENO};
+ghost use Rattle.std.specs.Prelude.{◌≤◌, ◌<◌, length, IfOk};
+
+use std::io;
+use std::io::Read;
 
 mod cases;
 mod full;
@@ -24,14 +26,14 @@ fn none() -> Tally {
 fn differs(text: &[u8], expected: &[u8]) -> bool {
     let mut out = [0u8; 65536];
     let size = day::sheet(text, &mut out);
-    !check::same(&out[..size], expected)
+    &out[..size] != expected
 }
 
 // Whether what is told beside the sheet is something else than expected.
 fn tells_otherwise(text: &[u8], sheet: &[u8], expected: &[u8]) -> bool {
     let mut words = [0u8; 262144];
     let size = plain::tell(text, sheet, &mut words);
-    !check::same(&words[..size], expected)
+    &words[..size] != expected
 }
 
 // One more; no kind has a million texts.
@@ -72,19 +74,15 @@ fn sum(a: u64, b: u64) -> u64 {
 }
 
 // A kind's line, and the tally of all kinds with it.
-fn told(all: Tally, name: &[u8], t: Tally) -> Tally {
+fn told(rt: &impl Print, all: Tally, name: &[u8], t: Tally) -> io::Result<Tally> {
     let texts = t.texts;
     let wrong = t.wrong;
-    io::write_all(STDOUT_FILENO, name);
-    io::write_all(STDOUT_FILENO, b": ");
-    io::print_decimal(STDOUT_FILENO, texts);
-    io::write_all(STDOUT_FILENO, b" texts, ");
-    io::print_decimal(STDOUT_FILENO, wrong);
-    io::write_all(STDOUT_FILENO, b" differ\n");
-    Tally {
+    rt.write_all(name)?;
+    println!(rt; ": {texts} texts, {wrong} differ")?;
+    Ok(Tally {
         texts: sum(all.texts, texts),
         wrong: sum(all.wrong, wrong),
-    }
+    })
 }
 
 // ---- the cases that are read
@@ -123,26 +121,26 @@ fn cases_of(file: &[u8], kind: usize, to: usize) -> Tally
 }
 
 // A kind: its name, and its cases.
-fn kind(all: Tally, file: &[u8], from: usize, to: usize) -> Tally
+fn kind(rt: &impl Print, all: Tally, file: &[u8], from: usize, to: usize) -> io::Result<Tally>
     requires fact_1 { from < length file.now }
     requires fact_2 { to ≤ length file.now }
 {
     let mut name = [0u8; 128];
     let size = cases::push_line(file, from, b"", &mut name, 0);
     let t = cases_of(file, from, to);
-    told(all, &name[..size], t)
+    told(rt, all, &name[..size], t)
 }
 
 // Every kind of the file.
-fn kinds(file: &[u8]) -> Tally {
+fn kinds(rt: &impl Print, file: &[u8]) -> io::Result<Tally> {
     let mut all = none();
     let mut from = cases::find(file, 0, b'=');
     while from < file.len() {
         let to = cases::find(file, cases::next_line(file, from), b'=');
-        all = kind(all, file, from, to);
+        all = kind(rt, all, file, from, to)?;
         from = to;
     }
-    all
+    Ok(all)
 }
 
 // ---- the cases that are made
@@ -243,11 +241,27 @@ fn longest() -> Tally {
     first_bytes(e, &text, 65537, b"BAD 0\n", 6)
 }
 
-fn main() {
+// Reads until the input ends or `file` is full; how many bytes came.
+fn read_file(source: &mut impl Read, file: &mut [u8]) -> io::Result<usize>
+    ensures { IfOk result (λ n. n ≤ length file.old) }
+{
+    let mut size = 0;
+    while size < file.len() {
+        let more = source.read(&mut file[size..])?;
+        if more == 0 {
+            return Ok(size);
+        }
+        size += more;
+    }
+    Ok(size)
+}
+
+fn main(rt: HostRuntime) -> io::Result<()> {
     let mut file = [0u8; 65536];
-    let size = io::read_full(STDIN_FILENO, &mut file);
-    let a = kinds(&file[..size]);
-    let b = told(a, b"files saved otherwise", saved_otherwise());
-    let c = told(b, b"longest texts", longest());
-    told(none(), b"in all", c);
+    let size = read_file(&mut rt.stdin(), &mut file)?;
+    let a = kinds(&rt, &file[..size])?;
+    let b = told(&rt, a, b"files saved otherwise", saved_otherwise())?;
+    let c = told(&rt, b, b"longest texts", longest())?;
+    told(&rt, none(), b"in all", c)?;
+    Ok(())
 }
