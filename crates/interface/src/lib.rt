@@ -1,5 +1,5 @@
-// The C interface: the entry points under the names that include/heidbummen.h declares. A slice is a pointer and a length. Each function has
-// the contract of the one below it, and asks nothing beforehand.
+// The C interface: the entry points under the names that include/heidbummen.h declares; `interface_c` exports each. Each function has the
+// contract of the one below it, and asks nothing beforehand.
 #![tactic(auto)]
 
 ghost use Rattle.std.specs.Prelude.{◌≡◌};
@@ -17,30 +17,26 @@ ghost use Rattle.day.specs.Sheet.{sheet_of, answer_of};
 
 use rules::{Account, Reply};
 
-#[unsafe(no_mangle)]
-pub extern "C" fn fx_deposit(words: &mut [i64], account: i64, amount: i64) -> Reply
+pub fn fx_deposit(words: &mut [i64], account: i64, amount: i64) -> Reply
     ensures { (result, words.new) ≡ perform by_account words.old (Q.deposit_rule account amount) }
 {
     ledger::deposit(words, account, amount)
 }
 
-#[unsafe(no_mangle)]
-pub extern "C" fn fx_withdraw(words: &mut [i64], account: i64, amount: i64) -> Reply
+pub fn fx_withdraw(words: &mut [i64], account: i64, amount: i64) -> Reply
     ensures { (result, words.new) ≡ perform by_account words.old (Q.withdraw_rule account amount) }
 {
     ledger::withdraw(words, account, amount)
 }
 
-#[unsafe(no_mangle)]
-pub extern "C" fn fx_guarantee(words: &mut [i64], account: i64, guarantee: i64, cap: i64) -> Reply
+pub fn fx_guarantee(words: &mut [i64], account: i64, guarantee: i64, cap: i64) -> Reply
     ensures { (result, words.new) ≡ perform by_account words.old (Q.guarantee_rule account guarantee cap) }
 {
     ledger::guarantee(words, account, guarantee, cap)
 }
 
 // The three figures are written in every case, 0 when the question is refused.
-#[unsafe(no_mangle)]
-pub extern "C" fn fx_question(
+pub fn fx_question(
     words: &[i64],
     account: i64,
     limit: &mut i64,
@@ -59,8 +55,7 @@ pub extern "C" fn fx_question(
     standing.number
 }
 
-#[unsafe(no_mangle)]
-pub extern "C" fn fx_trade(
+pub fn fx_trade(
     words: &mut [i64],
     buyer: i64,
     seller: i64,
@@ -73,22 +68,19 @@ pub extern "C" fn fx_trade(
     ledger::trade(words, buyer, seller, product, lots, price)
 }
 
-#[unsafe(no_mangle)]
-pub extern "C" fn fx_begin(words: &mut [i64]) -> Reply
+pub fn fx_begin(words: &mut [i64]) -> Reply
     ensures { (result, words.new) ≡ perform by_account words.old R.begin_rule }
 {
     ledger::begin(words)
 }
 
-#[unsafe(no_mangle)]
-pub extern "C" fn fx_step(words: &mut [i64]) -> Reply
+pub fn fx_step(words: &mut [i64]) -> Reply
     ensures { (result, words.new) ≡ perform by_account words.old R.step_rule }
 {
     ledger::step(words)
 }
 
-#[unsafe(no_mangle)]
-pub extern "C" fn fx_close(
+pub fn fx_close(
     words: &mut [i64],
     prices: &[i64],
     rates8: &[i64],
@@ -100,8 +92,7 @@ pub extern "C" fn fx_close(
     closing::close(words, prices, rates8, rates104, lags)
 }
 
-#[unsafe(no_mangle)]
-pub extern "C" fn fx_share(
+pub fn fx_share(
     loss: i64,
     deposits: &[i64],
     differences: &[i64],
@@ -116,8 +107,7 @@ pub extern "C" fn fx_share(
 
 // The part handed back, as a pointer to its first figure and a count. A refusal's part has no figure: the pointer goes to the start of `weeks8`; where that list is
 // empty too it stays as it was.
-#[unsafe(no_mangle)]
-pub extern "C" fn fx_rate<'a>(
+pub fn fx_rate<'a>(
     weeks8: &'a [i64],
     weeks104: &'a [i64],
     governs: &mut &'a i64,
@@ -141,23 +131,20 @@ pub extern "C" fn fx_rate<'a>(
     }
 }
 
-#[unsafe(no_mangle)]
-pub extern "C" fn fx_teller_deposit(account: &mut Account, x: i64) -> Reply
+pub fn fx_teller_deposit(account: &mut Account, x: i64) -> Reply
     ensures { (result ≡ K.reply_of (K.teller_deposit account.old x)) × (account.new ≡ (K.teller_deposit account.old x).account) }
 {
     teller::deposit(account, x)
 }
 
-#[unsafe(no_mangle)]
-pub extern "C" fn fx_teller_withdraw(account: &mut Account, x: i64) -> Reply
+pub fn fx_teller_withdraw(account: &mut Account, x: i64) -> Reply
     ensures { (result ≡ K.reply_of (K.teller_withdrawal account.old x)) × (account.new ≡ (K.teller_withdrawal account.old x).account) }
 {
     teller::withdraw(account, x)
 }
 
 // The bytes of the sheet, written at the start of `out`; 0, and `out` as it was, where it has not room for every sheet (65,536 bytes).
-#[unsafe(no_mangle)]
-pub extern "C" fn fx_sheet(text: &[u8], out: &mut [u8]) -> usize
+pub fn fx_sheet(text: &[u8], out: &mut [u8]) -> usize
     ensures { (result, out.new) ≡ answer_of (sheet_of the_ledger text.now) out.old }
 {
     day::sheet(text, out)
