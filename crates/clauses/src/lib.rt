@@ -1,6 +1,7 @@
 // Which clause of soundness a list of words fails first (01, "The ledger's words"), found by the tests of soundness themselves, so that whoever
 // wrote the words can be told what to mend.
 #![tactic(auto)]
+
 ghost use Rattle.std.specs.Prelude.{◌≡◌, true, ◌<◌, ◌≤◌, length};
 ghost use Rattle.whole.specs.Number as N;
 ghost use Rattle.whole.specs.Counting.{all, sum};

@@ -52,6 +52,7 @@ pub first_next : (i : ℕ) (f : ℕ → Failing) → is_none (first_of i f) ≡ 
 first_next i f e = ap (λ k. first_of k f) (add-one i) ∙ rw e
 
 pub first-fails : (n i : ℕ) (f : ℕ → Failing) → i < n → is_none (first_of i f) ≡ true → is_none (f i) ≡ false → first_of n f ≡ f i
+first-fails zero i f h e x = elim h [ ]
 first-fails (suc m) i f h e x =
     ⊎_elim (λ l. rw (first-fails m i f l e x, x)) (λ l. let k : suc m ≡ i + 1 = omega (arith, l) in ap (λ n. first_of n f) k ∙ first_next i f e) (below-or-last i m h)
 

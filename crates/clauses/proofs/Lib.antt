@@ -1,0 +1,2 @@
+pub mod ClauseLaws
+pub mod ClauseExamples
