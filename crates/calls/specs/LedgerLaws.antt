@@ -18,7 +18,7 @@ use Rattle.soundness.specs.Perform.{refuse, refuse_question}
 use Rattle.soundness.specs.Keep.{After, ledger_called}
 use Rattle.acts.proofs.ActsKeep.{deposit-keeps, withdraw_keeps, guarantee-keeps, trade-keeps, begin-keeps, step_keeps}
 use Rattle.acts.specs.Requests.{question_rule}
-use Rattle.closing.specs.CloseKeeps.{close-keeps}
+use Rattle.closing.proofs.CloseLaws.{close-keeps}
 use Rattle.dayfile.specs.CallLines.{Call, deposit, withdrawal, guarantee, begin, step, trade, close, none, column}
 use Rattle.lines.proofs.WriteLaws.{take_figures}
 use Rattle.calls.specs.Ledger.{rule_of, the_ledger}

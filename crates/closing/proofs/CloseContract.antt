@@ -12,7 +12,7 @@ use Rattle.closing.specs.contracts.close as close
 
 -- the parameters at entry are a: the words, prices, both rates and lags; z has the words at exit
 abbrev pub closes : Contract close.ended
-closes = record { clauses = λ _. close.clauses }
+closes = record { clauses = λ _ _. close.clauses }
 
 pub close-says : Says closes
     (λ _ a r z. (r, z.0.now) ≡ perform by_account a.0.now (close_rule a.1.0.now a.1.1.0.now a.1.1.1.0.now a.1.1.1.1.0.now))

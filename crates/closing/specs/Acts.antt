@@ -1,6 +1,6 @@
 -- The rule of the close, test by test: what it answers where each test fails, and once its search has answered. Assumes nothing.
-use Rattle.std.specs.Prelude.{◌≡◌, Bool, true, false, List, ℕ, ◌+◌, ◌≤◌, ◌<◌, ℤ, pos}
-use Rattle.std.proofs.Common.{sym, ap, ◌∙◌, lt-ltb, le-ltb}
+use Rattle.std.specs.Prelude.{◌≡◌, Bool, true, false, List, ℕ, ◌+◌, ◌≤◌, ℤ, pos}
+use Rattle.std.proofs.Common.{sym, ap, ◌∙◌, le-ltb}
 use Rattle.whole.specs.Number.{is, unless}
 use Rattle.whole.specs.Counting.{all, least}
 use Rattle.rules.specs.declared.Reply.{Reply}
@@ -12,12 +12,8 @@ use Rattle.daily.specs.DailyFigures.{lengths_ok, figure_ok, over_gross}
 use Rattle.closing.specs.Close.{closed, closing, close_puts, close_rule}
 
 module _ (L : Layout) (prices rates8 rates104 lags : List ℤ) (s : Shape) (W : List ℤ) (a : ℕ) (e : a ≡ least s.n (over_gross prices lags s (get L s W))) where
-  at_a : finish L s W (closing prices rates8 rates104 lags s (get L s W)) ≡ finish L s W (closed prices rates8 rates104 lags s (get L s W) a)
+  pub at_a : finish L s W (closing prices rates8 rates104 lags s (get L s W)) ≡ finish L s W (closed prices rates8 rates104 lags s (get L s W) a)
   at_a = ap (λ k. finish L s W (closed prices rates8 rates104 lags s (get L s W) k)) (sym e)
-
-  -- an account's gross would pass its range
-  pub found : a < s.n → finish L s W (closing prices rates8 rates104 lags s (get L s W)) ≡ (replies 12 (pos a), W)
-  found h = at_a ∙ rw (lt-ltb a s.n h)
 
   -- none would
   pub closes : s.n ≤ a → finish L s W (closing prices rates8 rates104 lags s (get L s W)) ≡ (replies 0 (pos 0), puts L s W (close_puts prices rates8 rates104 lags s (get L s W)))

@@ -1,5 +1,5 @@
 -- Worked examples, run by the rule itself: the daily differences R3 to R6 of 01, and a close of two accounts in three products, one of them a
--- cross, with each of its refusals.
+-- cross, with each of its refusals; that by 12 is in proofs/CloseLaws.
 use Rattle.std.specs.Prelude.{◌≡◌, refl, List, [], ◌∷◌, ℤ, pos, negsuc}
 use Rattle.whole.specs.Number.{floor_div, max_z}
 use Rattle.rules.specs.Product.{rate_of, difference_of}
@@ -30,7 +30,7 @@ r6 = refl
 
 -- two yen products, the first with the floor mark, and a cross of the second's currency against the first's; a broker and a provider, by the
 -- phase and the provider's cash
-abbrev before : ℤ → ℤ → List ℤ
+abbrev pub before : ℤ → ℤ → List ℤ
 before phase cash =
     pos 2 ∷ pos 3 ∷ phase ∷ pos 0
     ∷ pos 0 ∷ pos 1 ∷ pos 1502400 ∷ pos 0 ∷ pos 0
@@ -40,16 +40,16 @@ before phase cash =
     ∷ pos 1 ∷ cash ∷ pos 0 ∷ pos 0 ∷ pos 0 ∷ pos 0 ∷ negsuc 49 ∷ pos 7 ∷ negsuc 29 ∷ negsuc 45074999 ∷ pos 0 ∷ pos 0 ∷ negsuc 9 ∷ negsuc 108499
     ∷ []
 
-abbrev prices : List ℤ
+abbrev pub prices : List ℤ
 prices = pos 1502500 ∷ pos 1620000 ∷ pos 10873 ∷ []
 
-abbrev rates8 : List ℤ
+abbrev pub rates8 : List ℤ
 rates8 = pos 300 ∷ pos 333 ∷ pos 250 ∷ []
 
-abbrev rates104 : List ℤ
+abbrev pub rates104 : List ℤ
 rates104 = pos 350 ∷ pos 300 ∷ pos 260 ∷ []
 
-abbrev lags : List ℤ
+abbrev pub lags : List ℤ
 lags = pos 0 ∷ pos 1 ∷ pos 2 ∷ []
 
 -- margin: 30 × 1,502,500 × 400 and 10 × 1,620,000 × 260; dues move down, and the cross's difference comes in two days
@@ -66,11 +66,6 @@ taken : perform by_account (before (pos 3) (pos 500)) (close_rule prices rates8 
     )
 unfolding sound_by perform_by account_ok by_account close_puts account_puts new_due new_margin rate_of difference_of floor_div max_z
 taken = refl
-
--- the provider's gross would be 1,000,000,000,002,513
-refused_12 : perform by_account (before (pos 3) (pos 999999999999000)) (close_rule prices rates8 rates104 lags) ≡ (replies 12 (pos 1), before (pos 3) (pos 999999999999000))
-unfolding sound_by perform_by account_ok by_account close_puts account_puts new_due new_margin rate_of difference_of floor_div max_z
-refused_12 = refl
 
 -- a lag of 3
 refused_8 : perform by_account (before (pos 3) (pos 500)) (close_rule prices rates8 rates104 (pos 0 ∷ pos 1 ∷ pos 3 ∷ [])) ≡ (replies 8 (pos 0), before (pos 3) (pos 500))

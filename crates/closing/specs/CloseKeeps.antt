@@ -1,6 +1,6 @@
--- A close leaves a sound ledger, taken or refused, over any layout: `close-keeps` of a ledger of a known shape, `close-sound` of any words.
+-- A close that is taken leaves a sound ledger, over any layout: `taken-keeps`. That any close does, taken or refused, is in proofs/CloseLaws.
 -- Books, margins, gross, dues, prices and the phase after it are in range; lots, names and marks are as they were. Assumes nothing.
-use Rattle.std.specs.Prelude.{◌≡◌, refl, Bool, true, false, cond, not, ◌&&◌, List, [], ℕ, ◌+◌, ◌*◌, ◌^◌, ◌≤◌, ◌<◌, leb, ltb, eqb, ℤ, pos, nat_abs, ◌*ℤ◌, get_or}
+use Rattle.std.specs.Prelude.{◌≡◌, refl, Bool, true, false, cond, not, ◌&&◌, List, ℕ, ◌+◌, ◌*◌, ◌^◌, ◌≤◌, ◌<◌, leb, ltb, eqb, ℤ, pos, nat_abs, ◌*ℤ◌, get_or}
 use Rattle.std.proofs.Math.Path.{ap}
 use Rattle.std.proofs.Common.{subst, ◌∙◌, mul-le-mul, arith, ltb-false, le-leb}
 use Rattle.whole.specs.Number.{within, between, is}
@@ -14,15 +14,13 @@ use Rattle.rules.specs.ProductLaws.{abs_mul}
 use Rattle.places.specs.declared.Shape.{Shape}
 use Rattle.places.specs.Place.{Place, head, View, Layout, Put, get, puts, house, product_kind, floor_mark, price, principal, quote, kind, cash, guarantee, cap, margin, lots, book}
 use Rattle.places.specs.PlaceLaws.{length-puts}
-use Rattle.places.specs.Act.{stated_count, most_accounts, most_products, shape_of}
-use Rattle.places.specs.ActLaws.{unless-puts, performed, ledger-of, sound-of}
-use Rattle.soundness.specs.Sound.{account_at, names_yen, yen_pair, cross_pair, pair_ok, product_ok, held_ok, places_ok, sound}
-use Rattle.soundness.specs.Perform.{refuse, refuse_at, does, perform}
+use Rattle.places.specs.Act.{stated_count, most_accounts, most_products}
+use Rattle.soundness.specs.Sound.{account_at, names_yen, yen_pair, cross_pair, pair_ok, product_ok, held_ok}
 use Rattle.soundness.specs.SoundLaws.{Ledger, Facts, from_facts, ledger_facts}
 use Rattle.daily.specs.DailyFigures.{new_margin, new_book, new_gross, charge, over_gross, figure_ok}
 use Rattle.daily.specs.Ranges.{Lengths, lengths-of, Ready, ready, rates_of, charges_in, figure, lower}
-use Rattle.closing.specs.Close.{close_puts, close_rule}
-use Rattle.closing.specs.Acts.{lengths_test, phase_test, figures_test}
+use Rattle.closing.specs.Close.{close_puts}
+use Rattle.closing.specs.Acts.{lengths_test, figures_test}
 use Rattle.closing.specs.After.{After, after}
 
 -- lots at a price in range are a book in range
@@ -141,10 +139,6 @@ module _ (prices rates8 rates104 lags : List ℤ) (s : Shape) (g g' : View) (f :
 none_over : (n : ℕ) (f : ℕ → Bool) → ltb (least n f) n ≡ false → (a : ℕ) → a < n → f a ≡ false
 none_over n f e = least-none n f (let h = ltb-false (least n f) n e in omega (arith, least-most n f))
 
-closed-puts : (P : List Put → Type 0) (t : Bool) (z : ℤ) (us : List Put) → P [] → (t ≡ false → P us) → P (cond t (refuse_at 12 z) (does (pos 0) us)).puts
-closed-puts P true z us n h = n
-closed-puts P false z us n h = h refl
-
 module _ (L : Layout) (s : Shape) (W : List ℤ) (prices rates8 rates104 lags : List ℤ) (l : Ledger L s W) where
   abbrev g : View
   g = get L s W
@@ -153,7 +147,7 @@ module _ (L : Layout) (s : Shape) (W : List ℤ) (prices rates8 rates104 lags : 
   us = close_puts prices rates8 rates104 lags s g
 
   -- a close that is taken
-  taken-keeps : lengths_test prices rates8 rates104 lags s g ≡ true → figures_test prices rates8 rates104 lags s g ≡ true → ltb (least s.n (over_gross prices lags s g)) s.n ≡ false
+  pub taken-keeps : lengths_test prices rates8 rates104 lags s g ≡ true → figures_test prices rates8 rates104 lags s g ≡ true → ltb (least s.n (over_gross prices lags s g)) s.n ≡ false
       → Ledger L s (puts L s W us)
   taken-keeps t fig e =
       let f = after L prices rates8 rates104 lags s W l.sized.sized in
@@ -169,19 +163,3 @@ module _ (L : Layout) (s : Shape) (W : List ℤ) (prices rates8 rates104 lags : 
             from_facts s (get L s (puts L s W us))
             (facts_keep prices rates8 rates104 lags s g (get L s (puts L s W us)) f l.sized.few' (ledger_facts L s W l) fig (lengths-of prices rates8 rates104 lags s.p t) (none_over s.n (over_gross prices lags s g) e));
       }
-
-  -- a ledger is a sound ledger of its shape after the puts of the rule, whatever it answered
-  pub close-keeps : Ledger L s (puts L s W (close_rule prices rates8 rates104 lags s g).puts)
-  close-keeps =
-      let P : List Put → Type 0 = λ vs. Ledger L s (puts L s W vs) in
-      unless-puts P (lengths_test prices rates8 rates104 lags s g) (refuse 2) _ l (λ t.
-      unless-puts P (phase_test prices rates8 rates104 lags s g) (refuse 7) _ l (λ _.
-      unless-puts P (figures_test prices rates8 rates104 lags s g) (refuse 8) _ l (λ fig.
-      closed-puts P (ltb (least s.n (over_gross prices lags s g)) s.n) (pos (least s.n (over_gross prices lags s g))) us l (taken-keeps t fig))))
-
--- a sound list of words is sound after a close, taken or refused
-pub close-sound : (L : Layout) (W : List ℤ) (prices rates8 rates104 lags : List ℤ) → sound L W ≡ true → sound L (perform L W (close_rule prices rates8 rates104 lags)).1 ≡ true
-close-sound L W prices rates8 rates104 lags e =
-    let s = shape_of W in
-    rw (performed places_ok L W (refuse 1) (close_rule prices rates8 rates104 lags) e)
-    (sound-of places_ok L s (puts L s W (close_rule prices rates8 rates104 lags s (get L s W)).puts) (close-keeps L s W prices rates8 rates104 lags (ledger-of places_ok L W e)))

@@ -14,7 +14,7 @@ use Rattle.places.specs.Passes.{Agree, Off, unseen, leaves_put, leaves_later, le
 use Rattle.daily.specs.DailyFigures.{difference, added_to, charge, new_book}
 use Rattle.daily.specs.Once.{single_of, charge-once}
 use Rattle.closing.specs.Walk.{product_puts, product_walked, walked}
-use Rattle.closing.specs.After.{close_keeps, after}
+use Rattle.closing.specs.After.{close_keeps}
 
 -- ---- three words of the account a, put at once: a due, the margin, a book
 

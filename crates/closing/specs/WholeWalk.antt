@@ -1,7 +1,7 @@
 -- The walk of a close as a whole: what it may rely on at each product, what the accounts' start leaves, and that the words at its end are those of `Close`
 -- (`walked-is`). Assumes nothing.
 use Rattle.std.proofs.Math.Path.{◌≡◌}
-use Rattle.std.specs.Prelude.{refl, ◌≢◌, Bool, true, false, List, [], ◌∷◌, ℕ, ◌+◌, ◌≤◌, ◌<◌, ℤ, nat_abs, ◌+ℤ◌, length}
+use Rattle.std.specs.Prelude.{refl, ◌≢◌, Bool, true, false, List, [], ◌∷◌, ℕ, ◌+◌, ◌≤◌, ◌<◌, ℤ, nat_abs, length}
 use Rattle.std.proofs.Common.{sym, ◌∙◌, length-set, le-ltb, ne_eqb}
 use native.Mathlib.Omega.{arith}
 use Rattle.std.proofs.Math.IntN.{pos, +ℤ_idr}

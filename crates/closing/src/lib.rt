@@ -2,6 +2,7 @@
 // before all refusals are past. The writing pass goes product by product and makes each position's due, margin and book at once, where they stand in the
 // ledger: in it what belongs to a product is worked out once, and each difference once. No room is needed beside the ledger but for the dues of one account.
 #![tactic(auto)]
+
 ghost use Rattle.std.specs.Prelude.{◌≡◌, true, ◌+◌, ◌<◌, ◌≤◌, length};
 ghost use Rattle.whole.specs.Number.{is};
 ghost use Rattle.whole.specs.Counting.{all, least};

@@ -1,0 +1,13 @@
+-- `close_products` meets its contract: the first j products are walked, and what the next one relies on still holds (`named_then`, `column_then`).
+-- Assumes nothing.
+use mathlib.Core.Path.{◌≡◌}
+use Prim.Native.Nat.{◌-◌, ◌≤◌}
+use Rattle.places.specs.ByAccount.{by_account}
+use Rattle.closing.specs.Walk.{walked}
+use Rattle.closing.proofs.close_products.Given as goal
+
+abbrev pub invariant-loop-j : goal.invariant-loop-j
+invariant-loop-j l = (l.j ≤ l.s.p) × (l.words ≡ walked by_account l.s l.prices l.rates8 l.rates104 l.lags l.j l.initial.words)
+
+abbrev pub decreases-loop-j : goal.decreases-loop-j
+decreases-loop-j l = l.s.p - l.j

@@ -1,0 +1,32 @@
+-- `first_over` meets its contract: no account before a is over, by the bound on what a close adds (`gross_in`) or by its new dues; the inner loop has the
+-- gross of the cash and the first d new dues, still in range. Assumes nothing.
+use mathlib.Core.Bool.{false}
+use mathlib.Core.List.{List}
+use mathlib.Core.Path.{◌≡◌}
+use Prim.Native.Nat.{ℕ, ◌+◌, ◌-◌, ◌≤◌, ◌<◌}
+use lib.IntN.{ℤ, nat_abs}
+use lib.ListN.{length}
+use Rattle.whole.specs.Counting.{total}
+use Rattle.rules.specs.Sizes.{most_gross}
+use Rattle.places.specs.declared.Shape.{Shape}
+use Rattle.places.specs.Place.{get, dues, cash}
+use Rattle.places.specs.ByAccount.{by_account}
+use Rattle.daily.specs.DailyFigures.{new_due, over_gross}
+use Rattle.closing.proofs.first_over.Given as goal
+
+abbrev pub due-abs : List ℤ → Shape → List ℤ → List ℤ → ℕ → ℕ → ℕ
+due-abs W s prices lags a d = nat_abs (new_due prices lags s (get by_account s W) a d)
+
+-- the gross of the cash and the first d new dues, still in range
+abbrev pub invariant-loop-d : goal.invariant-loop-d
+invariant-loop-d l = (l.d ≤ dues) × (l.gross ≡ nat_abs (get by_account l.s l.words (cash l.a)) + total l.d (due-abs l.words l.s l.prices l.lags l.a)) × (l.gross ≤ most_gross)
+
+abbrev pub decreases-loop-d : goal.decreases-loop-d
+decreases-loop-d l = dues - l.d
+
+-- no account before a is over
+abbrev pub invariant-search : goal.invariant-search
+invariant-search l = (l.a ≤ l.s.n) × (length l.new ≡ dues) × ((k : ℕ) → k < l.a → over_gross l.prices l.lags l.s (get by_account l.s l.words) k ≡ false)
+
+abbrev pub decreases-search : goal.decreases-search
+decreases-search l = l.s.n - l.a
