@@ -1,5 +1,5 @@
 #!/usr/bin/env bash
-# ./fx COMMAND [ARGUMENTS]: the commands of the margin ledger; `./fx help` lists them. A command is a program under target/bin, which is proved and
+# ./fx COMMAND [ARGUMENTS]: the commands of the margin ledger; `./fx help` lists them. A command is a program under crates/, which is proved and
 # built first where that is still to be done. Standard output holds what the program printed and nothing else; all else is said on standard error.
 set -u
 unset CDPATH # with it, cd may go elsewhere
@@ -46,9 +46,12 @@ look_at() { # FILE as the user wrote it
     fi
 }
 
-# Missing, not yet run (rt keeps a stamp once it has run as its crate says), or older than a source or a folder of sources.
+# Missing, or older than a source or a folder of sources. What rt makes, in out/, is no source, nor is an edit that the gate tries.
 is_stale() {
-    [ ! -x "$built" ] || [ ! -f "$root/target/stamp/$program" ] || [ -n "$(find "$root/crates" "$root/crates.txt" -newer "$built")" ]
+    [ ! -x "$built" ] || [ -n "$(
+        cd "$root" && find crates.txt -newer "$built" &&
+            find crates -mindepth 2 \( -path 'crates/*/out' -o -path 'crates/*/must-fail' \) -prune -o -newer "$built" -print
+    )" ]
 }
 take_lock() { # on the root folder itself: it leaves no file behind, and ends with the processes that hold it
     exec {lock}<"$root" || return
@@ -67,8 +70,11 @@ count_crates() { # that the program needs, itself among them; crates.txt has the
     awk -F: -v need=" $program " '{ sub(/#.*/, "") } NF > 1 { name[++n] = $1; needs[n] = $2 }
         END { for (; n; n--) if (index(need, " " name[n] " ")) { count++; need = need needs[n] " " }; print count + 0 }' "$root/crates.txt"
 }
-show_progress() { # END of the line
-    printf '%sfx: %s of %s crates proved, %s s%s' "$back" "$(grep -c '^rt: [^ ]* proved (' "$said")" "$total" "$SECONDS" "$1" >&2
+show_progress() { # COUNT of crates, END of the line
+    printf '%sfx: %s of %s crates proved, %s s%s' "$back" "$1" "$total" "$SECONDS" "$2" >&2
+}
+count_proved() { # a library that was proved earlier, and has not changed since, is not said to be proved
+    grep -c '^logic=proved ' "$said"
 }
 stop() { # STATUS: ends the proof with all that it started; what rt starts does not heed Ctrl-C
     trap '' HUP INT QUIT PIPE TERM
@@ -78,33 +84,42 @@ stop() { # STATUS: ends the proof with all that it started; what rt starts does 
     fail "$1" 'stopped. The crates that are proved by now need not be proved again.'
 }
 could_not_build() { # says why: no room, or what rt said, but for its lines that tell least
-    need_room "$root/target" true
+    need_room "$out" true
     need_room "$room" true
-    grep -v -e '^library ' -e 'NOT PROVED: its dependency' "$said" | tail -n 12 >&2
+    grep -v -e ': proved' -e '^statements ' -e '^library ' -e '^crate ' -e '^axioms ' -e '^logic ' "$said" | tail -n 12 >&2
     fail 3 "the program could not be proved and built. The lines above are the end of what rt said; all of it is in $said"
 }
 prove() {
-    local back='' failed='' job='' said=$root/target/fx-$program.log total
+    local back='' failed='' job='' out=${built%/*} said=${built%/*}/fx.log total
     total=$(count_crates)
     [ ! -t 2 ] || back=$'\r'
-    # The toolchain's temporary files have a folder of their own, so that none stays after an interrupt; rt, as root, needs it open to nobody.
+    # The toolchain's temporary files have a folder of their own, so that none stays after an interrupt.
     room=${TMPDIR:-/tmp}/fx.$$.$RANDOM
     trap 'rm -rf "$room"' EXIT
-    need_room "$root/target" mkdir -p
-    need_room "$room" mkdir -m 711
+    need_room "$out" mkdir -p
+    need_room "$room" mkdir -m 700
     : >"$room/began"
     : >"$said"
     say 'the program is proved and built first. The first time this takes some minutes.'
     SECONDS=0
     trap 'stop 129' HUP; trap 'stop 130' INT; trap 'stop 131' QUIT; trap 'stop 141' PIPE; trap 'stop 143' TERM
     set -m # a process group of its own, to be ended as one
-    (cd "$root" && TMPDIR=$room exec rt check "$program") </dev/null >"$said" 2>&1 &
+    (cd "$root/crates/$program" && TMPDIR=$room exec rt run) <"$root/crates/$program/stdin" >"$room/page" 2>"$said" &
     job=$!
     set +m
-    while [ -n "$back" ] && kill -0 "$job" 2>/dev/null; do show_progress ''; sleep 1; done
+    while [ -n "$back" ] && kill -0 "$job" 2>/dev/null; do show_progress "$(count_proved)" ''; sleep 1; done
     wait "$job" || failed=yes
-    show_progress $'\n'
-    [ -z "$failed" ] || could_not_build
+    # it has run as its crate says, or it is not kept
+    if [ -z "$failed" ] && ! cmp -s "$room/page" "$root/crates/$program/stdout"; then
+        echo "the program was built, but of crates/$program/stdin it printed something else than crates/$program/stdout" >>"$said"
+        failed=yes
+        rm -f "$built"
+    fi
+    if [ -n "$failed" ]; then
+        show_progress "$(count_proved)" $'\n'
+        could_not_build
+    fi
+    show_progress "$total" $'\n'
     touch -c -r "$room/began" "$built" # so that a source that was edited meanwhile is newer
     rm -rf "$room"
     trap - EXIT HUP INT QUIT PIPE TERM
@@ -138,22 +153,21 @@ done
 file=${files[0]--}
 look_at "$file"
 
-# Programs are for x86-64 and run with the toolchain's own loader; on another processor it has an emulator beside its compiler.
-guide=$(rt doc </dev/null 2>/dev/null) || guide=''
-tools=${guide%/*/*}/on/$(uname -m)/toolchain
-loader=$tools/lib/ld-linux-x86-64.so.2 emulator=$tools/bin/qemu-x86_64 built=$root/target/bin/$program
-[ -x "$emulator" ] || emulator=''
-[ -f "$loader" ] || fail 3 'the program cannot be built or run: the Rattle toolchain (its command is rt, and the file KIT names it) is not here.'
+built=$root/crates/$program/out/$program
 if is_stale; then
+    command -v rt >/dev/null || fail 3 'the program cannot be built: the Rattle toolchain (its command is rt, and the file KIT names it) is not here.'
     take_lock
     ! is_stale || prove
     [ -z "$lock" ] || exec {lock}<&-
 fi
 
-[ "$file" != - ] || file=''
-[ -n "$file" ] || [ ! -t 0 ] || say 'the day is read from standard input. Type or paste it, then press Ctrl-D at the start of a line.'
-page=$(${emulator:+"$emulator"} "$loader" --library-path "$tools/lib" "$built" ${file:+"$file"}; status=$?; echo .; exit "$status") ||
-    fail 3 "the program stopped before its end (status $?)."
+# The program opens a file by a name of UTF-8 alone; handed over as its standard input, a file may have any name.
+if [ "$file" != - ]; then
+    exec <"$file" || exit 2
+elif [ -t 0 ]; then
+    say 'the day is read from standard input. Type or paste it, then press Ctrl-D at the start of a line.'
+fi
+page=$("$built"; status=$?; echo .; exit "$status") || fail 3 "the program stopped before its end (status $?)."
 page=${page%.}
 put "$page"
 # The program itself always ends with status 0: what it printed says which of the three it is.
