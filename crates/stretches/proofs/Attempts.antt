@@ -15,8 +15,8 @@ use Rattle.daily.specs.DailyFigures.{lengths_ok}
 use Rattle.closing.specs.Close.{close_rule}
 use Rattle.stretches.specs.Stretch.{Stretch, early, run, late, idle, rank}
 use Rattle.stretches.specs.History.{said, Event, asks, trade, transfer, begin, close, happens, waits, phase_of, stretch, Until, Refused, AttemptsRefused, made}
-use Rattle.stretches.specs.EventRules.{happens-acts}
-use Rattle.stretches.specs.Events.{Kept, keeps}
+use Rattle.stretches.proofs.EventRules.{happens-acts}
+use Rattle.stretches.proofs.Events.{Kept, keeps}
 
 not_is : (k : ℕ) (z : ℤ) → nat_abs z ≢ k → is k z ≡ false
 not_is k z ne = is_false (is k z) (λ e. let i = in-range k k z e in let l = i.low in let h = i.high in ne (omega arith))

@@ -21,7 +21,7 @@ use Rattle.stretches.specs.Apart.{nothing_any, own-own, own-step, own-begin, tra
 use Rattle.stretches.specs.Stretch.{early, run, late, idle, rank}
 use Rattle.stretches.specs.Sort.{Swap, Lawful}
 use Rattle.stretches.specs.History.{said, told, Ask, deposit, withdrawal, guarantee, question, Event, asks, trade, transfer, begin, close, happens, waits, judge, phase_of, made, stretch}
-use Rattle.stretches.specs.EventRules.{map_of, ask_rule, rule, unsound, acts, happens-acts}
+use Rattle.stretches.proofs.EventRules.{map_of, ask_rule, rule, unsound, acts, happens-acts}
 
 -- ---- judging
 

@@ -13,7 +13,7 @@ use Rattle.closing.proofs.CloseContract.{closes, close-says}
 use Rattle.stretches.specs.Stretch.{early, late}
 use Rattle.stretches.specs.History.{Answer, said, told, deposit, withdrawal, guarantee, question, Event, asks, trade, transfer, begin, close, hears}
 use Rattle.stretches.specs.History.{happens, phase_of, events_of, Until, transfers, transfers_in}
-use Rattle.stretches.specs.CallChains.{Called, none, call, Same, demand_3_called, demand_3_called_from-begin}
+use Rattle.stretches.proofs.CallChains.{Called, none, call, Same, demand_3_called, demand_3_called_from-begin}
 
 module _ (w : World) where
   -- a call of an event's function: the words at its entry, the event, its answer, the words at its exit. Its parameters are those of the source, in their order

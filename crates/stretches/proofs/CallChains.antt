@@ -12,7 +12,7 @@ use Rattle.soundness.specs.Sound.{sound}
 use Rattle.soundness.specs.Perform.{replies, perform, ask}
 use Rattle.stretches.specs.Stretch.{Stretch, early, run, late, idle, rank, only}
 use Rattle.stretches.specs.History.{Answer, said, told, Event, begin, happens, hears, phase_of, stretch, answers_to, words_after_all, events_of, heard_in, AttemptsRefused, Until, transfers, transfers_in, ThreeStretches}
-use Rattle.stretches.specs.Demand3.{demand_3, demand_3_from-begin}
+use Rattle.stretches.proofs.Demand3.{demand_3, demand_3_from-begin}
 
 -- calls one after another, each by its contract: the words before, the events, the answers, the words after
 pub data Called (L : Layout) : List ℤ → List Event → List Answer → List ℤ → Type 0 where

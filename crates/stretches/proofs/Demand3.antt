@@ -18,8 +18,8 @@ use Rattle.stretches.specs.Stretch.{Stretch, early, run, late, rank, only}
 use Rattle.stretches.specs.Sort.{sort}
 use Rattle.stretches.specs.History.{Answer, said, told, Event, asks, trade, transfer, begin, close, happens, waits, phase_of, stretch, Until, Refused, transfers, made, transfers_in, events_of, words_after_all, last_stretch, after_run, ThreeStretches}
 use Rattle.stretches.specs.Leaves.{chosen, LeftIn}
-use Rattle.stretches.specs.Events.{Good, lawful}
-use Rattle.stretches.specs.Attempts.{advance, Open, until_open, attempts-refused}
+use Rattle.stretches.proofs.Events.{Good, lawful}
+use Rattle.stretches.proofs.Attempts.{advance, Open, until_open, attempts-refused}
 
 -- ---- the run: once it has begun, its events are the transfers
 

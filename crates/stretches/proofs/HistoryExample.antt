@@ -11,7 +11,7 @@ use Rattle.soundness.specs.Sound.{sound}
 use Rattle.soundness.specs.Perform.{replies}
 use Rattle.stretches.specs.Stretch.{early, run, late, idle}
 use Rattle.stretches.specs.History.{Answer, said, told, deposit, withdrawal, question, Event, asks, trade, transfer, begin, close, happens, events_of, heard_in, words_after_all, Until, transfers, ThreeStretches}
-use Rattle.stretches.specs.Demand3.{demand_3_from-begin}
+use Rattle.stretches.proofs.Demand3.{demand_3_from-begin}
 
 -- phase and house; of each account cash, due 0, lots and book
 abbrev ledger : ℤ → ℤ → ℤ → ℤ → ℤ → ℤ → ℤ → ℤ → ℤ → ℤ → List ℤ

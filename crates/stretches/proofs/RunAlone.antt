@@ -22,8 +22,8 @@ use Rattle.acts.proofs.StepLaws.{Stepped, stepped, stepped_word, step-answer}
 use Rattle.stretches.specs.Stretch.{early, run, late, rank, only}
 use Rattle.stretches.specs.History.{said, Event, asks, trade, transfer, begin, close, happens, waits, phase_of, stretch, answers_to, heard_in, words_after_all, Until, transfers, made, transfers_in}
 use Rattle.stretches.specs.Leaves.{stepped_from, Stands, Settled, LeftIn}
-use Rattle.stretches.specs.Attempts.{advance, Open}
-use Rattle.stretches.specs.Demand3.{begun, open_history, all-to_come}
+use Rattle.stretches.proofs.Attempts.{advance, Open}
+use Rattle.stretches.proofs.Demand3.{begun, open_history, all-to_come}
 
 -- the last of several transfers
 last-transfer : (L : Layout) (W : List ℤ) (m : ℕ) → words_after_all L W (transfers (suc m)) ≡ (happens L (words_after_all L W (transfers m)) transfer).1
