@@ -1,6 +1,7 @@
 // The ledger's calls, as the sheet makes them: the one place that knows which ledger it is. The start is judged sound once; after that
 // every call and every question runs on words that are proved sound, by the functions behind the gate.
 #![tactic(auto)]
+
 ghost use Rattle.std.specs.Prelude.{◌≡◌};
 ghost use Rattle.places.specs.ByAccount.{by_account};
 ghost use Rattle.soundness.specs.SoundLaws.{Ledger};
