@@ -1,6 +1,7 @@
 // The sheet of a day file (01, "The day file and the sheet"): the calls are done, and what they answer is printed. `sheet` is the entry
 // point, text to text.
 #![tactic(auto)]
+
 ghost use Rattle.std.specs.Prelude.{◌≡◌, ◌+◌, ◌*◌, ◌<◌, ◌≤◌, pos, length, replicate};
 ghost use Rattle.std.proofs.lemmas.List.Edits.{sets};
 ghost use Rattle.places.specs.Place.{words_of};
