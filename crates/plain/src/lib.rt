@@ -2,6 +2,7 @@
 // good one which calls were refused and why. It is read off the text and its sheet, which say what is bad or refused (01); nothing here decides that.
 // Proved to be safe, to end, and to keep within the bytes that it is lent; what it says is tried by the program `texts`.
 #![tactic(auto)]
+
 ghost use Rattle.std.specs.Prelude.{◌<◌, ◌≤◌, length};
 
 use faults::{marks, say};
