@@ -6,6 +6,7 @@ use Rattle.std.proofs.Math.Path.{refl}
 use Rattle.std.proofs.Common.{sym, ap, ◌∙◌, arith, eq-eqb, le-ltb}
 use contract.Lifetimes.{Lfts}
 use denote.Ref.{MutBor, at_last}
+use Rattle.std.specs.Borrow.{Bor}
 use denote.Triple.Entry.{Args}
 use Rattle.contracts.specs.Says.{World, Permits, means, permitted}
 use Rattle.whole.specs.Number.{min_z, max_z, takes_away, floor_div}
@@ -59,9 +60,12 @@ Meets permits f = (l : MutBor (List ℤ)) → permits l (f l.now).0 (at_last l (
 abbrev pub ByRule : Permitted → Rule Reply → Type 1
 ByRule permits rule = (l : MutBor (List ℤ)) (r : Reply) (z : MutBor (List ℤ)) → permits l r z → (r, z.now) ≡ perform by_account l.now rule
 
--- a value, lent from some place
+-- a value, lent from some place for change, or to be read
 abbrev lent : {X : Type 0} → X → MutBor X
 lent x = record { ref_ptr = (0, 0); ghost_name = 0; now = x }
+
+abbrev shown : {X : Type 0} → X → Bor X
+shown x = record { ref_ptr = (0, 0); now = x }
 
 -- then so does the function
 pub met : {permits : Permitted} (rule : Rule Reply) → ByRule permits rule → (f : Program) → Meets permits f → (W : List ℤ) → f W ≡ perform by_account W rule
@@ -147,7 +151,7 @@ module _ (w : World) (κs : Lfts 1) where
 
 -- the broker's due 0; the lists are those of `close_at`
 abbrev close_args : (κs : Lfts 5) → MutBor (List ℤ) → Args close-fn.signature κs
-close_args κs l = (l, (lent (pos 1502600 ∷ []), (lent (pos 400 ∷ []), (lent (pos 400 ∷ []), (lent (pos 0 ∷ []), tt)))))
+close_args κs l = (l, (shown (pos 1502600 ∷ []), (shown (pos 400 ∷ []), (shown (pos 400 ∷ []), (shown (pos 0 ∷ []), tt)))))
 
 pub close : (w : World) (κs : Lfts 5) → NotEmpty (λ l r z. Permits closes w κs (close_args κs l) r (close_args κs z))
 close w κs = not_empty _ _ _ _ (λ l r z. means close-says w) acceptances.close 14 refl
@@ -156,9 +160,9 @@ close w κs = not_empty _ _ _ _ (λ l r z. means close-says w) acceptances.close
 
 -- a question about the account 0: limits 0 and 50,000 on two ledgers
 module _ (w : World) (κs : Lfts 1) (f : List ℤ → Standing)
-    (meets : (l : MutBor (List ℤ)) → Permits questions w κs (l, (pos 0, tt)) (f l.now) (l, (pos 0, tt))) where
+    (meets : (l : Bor (List ℤ)) → Permits questions w κs (l, (pos 0, tt)) (f l.now) (l, (pos 0, tt))) where
   question_met : (W : List ℤ) → (f W, W) ≡ ask by_account W (question_rule (pos 0))
-  question_met W = means question-says w (meets (lent W))
+  question_met W = means question-says w (meets (shown W))
 
   pub question-not_refusing : ((Y : List ℤ) → (f Y).number ≡ 0 → ⊥) → ⊥
   question-not_refusing never = never short (ap (λ p. p.0.number) (question_met short ∙ acceptances.question))
@@ -171,7 +175,7 @@ module _ (w : World) (κs : Lfts 1) (f : List ℤ → Standing)
 
 -- the loss of 01, and one below 0: the parameters, with the lists lent for the shares
 abbrev sharing : (κs : Lfts 5) → ℤ → List ℤ → List ℤ → Args loss-fn.signature κs
-sharing κs loss first second = (loss, (lent member-deposits, (lent differences, (lent marks, (lent first, (lent second, tt))))))
+sharing κs loss first second = (loss, (shown member-deposits, (shown differences, (shown marks, (lent first, (lent second, tt))))))
 
 module _ (w : World) (κs : Lfts 5) (f : ℤ → Reply × List ℤ × List ℤ)
     (meets : (loss : ℤ) → Permits losses w κs (sharing κs loss blank blank) (f loss).0 (sharing κs loss (f loss).1 (f loss).2)) where
@@ -200,7 +204,7 @@ abbrev wide : List ℤ
 wide = pos 0 ∷ pos 200 ∷ []
 
 abbrev rating : (κs : Lfts 3) → List ℤ → List ℤ → ℕ → ℤ → Args rate-fn.signature κs
-rating κs weeks8 weeks104 number rate = (lent weeks8, (lent weeks104, (lent number, (lent rate, tt))))
+rating κs weeks8 weeks104 number rate = (shown weeks8, (shown weeks104, (lent number, (lent rate, tt))))
 
 narrow_rate : window_rate narrow ≡ 17
 unfolding enough spread_of sum_of squares_of
@@ -211,22 +215,22 @@ unfolding enough spread_of sum_of squares_of
 wide_rate = by_two_tests wide refl refl 33 (omega arith) refl refl
 
 -- what is answered of a narrow window and another, of which the one with the rate r governs
-answered : (weeks104 : List ℤ) (r : ℕ) (g : MutBor (List ℤ)) → refusal narrow weeks104 ≡ 0 → governs (lent narrow) (lent weeks104) ≡ g → window_rate g.now ≡ r
-    → rated (lent narrow) (lent weeks104) ≡ (0, pos r, part_of g)
+answered : (weeks104 : List ℤ) (r : ℕ) (g : Bor (List ℤ)) → refusal narrow weeks104 ≡ 0 → governs (shown narrow) (shown weeks104) ≡ g → window_rate g.now ≡ r
+    → rated (shown narrow) (shown weeks104) ≡ (0, pos r, part_of g)
 answered weeks104 r g t q e =
-    rated-taken (lent narrow) (lent weeks104) (eq-eqb _ _ t) ∙ ap (λ z. (0, pos (window_rate z.now), part_of z)) q ∙ ap (λ k. (0, pos k, part_of g)) e
+    rated-taken (shown narrow) (shown weeks104) (eq-eqb _ _ t) ∙ ap (λ z. (0, pos (window_rate z.now), part_of z)) q ∙ ap (λ k. (0, pos k, part_of g)) e
 
-wide-governs : rated (lent narrow) (lent wide) ≡ (0, pos 33, part_of (lent wide))
+wide-governs : rated (shown narrow) (shown wide) ≡ (0, pos 33, part_of (shown wide))
 unfolding refusal
-wide-governs = answered wide 33 (lent wide) refl (governs-other (lent narrow) (lent wide) (rw (narrow_rate, wide_rate))) wide_rate
+wide-governs = answered wide 33 (shown wide) refl (governs-other (shown narrow) (shown wide) (rw (narrow_rate, wide_rate))) wide_rate
 
-narrow_alone : rated (lent narrow) (lent narrow) ≡ (0, pos 17, part_of (lent narrow))
+narrow_alone : rated (shown narrow) (shown narrow) ≡ (0, pos 17, part_of (shown narrow))
 unfolding refusal
-narrow_alone = answered narrow 17 (lent narrow) refl (governs-eight (lent narrow) (lent narrow) (rw narrow_rate)) narrow_rate
+narrow_alone = answered narrow 17 (shown narrow) refl (governs-eight (shown narrow) (shown narrow) (rw narrow_rate)) narrow_rate
 
-module _ (w : World) (κs : Lfts 3) (f : List ℤ → List ℤ → ℕ × ℤ × MutBor (List ℤ))
+module _ (w : World) (κs : Lfts 3) (f : List ℤ → List ℤ → ℕ × ℤ × Bor (List ℤ))
     (meets : (a b : List ℤ) → Permits ratings w κs (rating κs a b 0 (pos 0)) (f a b).2 (rating κs a b (f a b).0 (f a b).1)) where
-  rate_met : (a b : List ℤ) → ((f a b).0, (f a b).1, part_of (f a b).2) ≡ rated (lent a) (lent b)
+  rate_met : (a b : List ℤ) → ((f a b).0, (f a b).1, part_of (f a b).2) ≡ rated (shown a) (shown b)
   rate_met a b = means governing_says w (meets a b)
 
   pub rate_not_refusing : ((a b : List ℤ) → (f a b).0 ≡ 0 → ⊥) → ⊥
@@ -293,7 +297,7 @@ module _ (w : World) (κs : Lfts 1) where
 
 -- ---- the sheet: the paper's text and no text at all, in any list that has room
 module _ (w : World) (κs : Lfts 2) (f : List ℕ → List ℕ → ℕ × List ℕ)
-    (meets : (text out : List ℕ) → Permits sheets w κs (lent text, (lent out, tt)) (f text out).0 (lent text, (lent (f text out).1, tt)))
+    (meets : (text out : List ℕ) → Permits sheets w κs (shown text, (lent out, tt)) (f text out).0 (shown text, (lent (f text out).1, tt)))
     (out : List ℕ) (fits : 65536 ≤ length out) where
   sheet_met : (text out : List ℕ) → f text out ≡ answer_of (sheet_of the_ledger text) out
   sheet_met text out = means sheet_says w (meets text out)
