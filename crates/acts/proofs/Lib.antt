@@ -5,4 +5,4 @@ pub mod RunLaws
 pub mod StepLaws
 pub mod ActsKeep
 pub mod FormerQuestion
-pub mod WithdrawalLaws
+pub mod Withdrawals
