@@ -25,9 +25,25 @@ fn read_text(source: &mut impl Read, text: &mut [u8]) -> io::Result<usize>
     Ok(size)
 }
 
+// Where the words of an error end, without the number that the system gives it.
+fn end_of_words(words: &str) -> usize
+    ensures { result ≤ length words.now }
+{
+    match words.find(" (os error ") {
+        Some(end) => end,
+        None => words.len(),
+    }
+}
+
 // Says on standard error what can not be read or written, and why. Where that can not be said either, nothing is left to say it to.
 fn fail(rt: &HostRuntime, what: &str, why: io::Error) {
-    let _ = eprintln!(rt; "{what}: {why}");
+    if let Ok(words) = format!(in rt.alloc(); "{why}") {
+        let end = end_of_words(words.as_str());
+        let _ = rt.stderr().write_all(what.as_bytes());
+        let _ = rt.stderr().write_all(b": ");
+        let _ = rt.stderr().write_all(&words.as_str().as_bytes()[..end]);
+        let _ = rt.stderr().write_all(b"\n");
+    }
 }
 
 // Why an argument is the name of no file.
