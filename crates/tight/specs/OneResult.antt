@@ -68,8 +68,8 @@ pub share_loss : Coincide losses losses {X = List ℤ × List ℤ} (λ _ z. (z.1
 share_loss w κs a r r' z z' p q =
     let e = one _ (means share_loss_says w p) (means share_loss_says w q) in (ap (λ l. l.0) e, ap (λ l. (l.1, l.2)) e)
 
--- ---- the margin rate is two numbers that are written, and a part of the caller's memory that is handed back: where it begins, and its figures. (The name by which
--- the logic follows a reference is no part of the program, and is left open)
+-- ---- the margin rate is two numbers that are written, and a part of the caller's memory that is handed back: where it begins, and its
+-- figures.
 
 pub governing : (w : World) (κs : Lives governing-fn.ended) (a : Args governing-fn.signature κs) (r r' : Res governing-fn.signature κs) (z z' : AtExit governing-fn.ended κs)
     → Permits ratings w κs a r z → Permits ratings w κs a r' z'
