@@ -46,6 +46,11 @@ look_at() { # FILE as the user wrote it
     fi
 }
 
+is_plain() { # NAME: of ASCII alone
+    local LC_ALL=C
+    case $1 in *[!\ -~]*) return 1 ;; esac
+}
+
 # Missing, or older than a source or a folder of sources. What rt makes, in out/, is no source, nor is an edit that the gate tries.
 is_stale() {
     [ ! -x "$built" ] || [ -n "$(
@@ -161,13 +166,15 @@ if is_stale; then
     [ -z "$lock" ] || exec {lock}<&-
 fi
 
-# The program opens a file by a name of UTF-8 alone; handed over as its standard input, a file may have any name.
-if [ "$file" != - ]; then
+# The program opens a file by a name of UTF-8 alone. One whose name is not plain is opened here, and handed over as its standard input.
+if [ "$file" = - ]; then
+    file=''
+    [ ! -t 0 ] || say 'the day is read from standard input. Type or paste it, then press Ctrl-D at the start of a line.'
+elif ! is_plain "$file"; then
     exec <"$file" || exit 2
-elif [ -t 0 ]; then
-    say 'the day is read from standard input. Type or paste it, then press Ctrl-D at the start of a line.'
+    file=''
 fi
-page=$("$built"; status=$?; echo .; exit "$status") || fail 3 "the program stopped before its end (status $?)."
+page=$("$built" ${file:+"$file"}; status=$?; echo .; exit "$status") || fail 3 "the program stopped before its end (status $?)."
 page=${page%.}
 put "$page"
 # The program itself always ends with status 0: what it printed says which of the three it is.

@@ -48,7 +48,8 @@ fn first_over(words: &[i64], s: Shape, prices: &[i64], lags: &[i64], new: &mut [
         let mut d = 0;
         while d < places::DUES {
             gross += whole::nat_abs(new[d]);
-            if gross > rules::sizes::MOST_GROSS {
+            let over = gross > rules::sizes::MOST_GROSS;
+            if over {
                 break 'search;
             }
             d += 1;

@@ -69,11 +69,11 @@ returns-after-search c =
     let x = c.args in let s = x.s in
     sym (least-is s.n (over_gross x.prices.now x.lags.now s (get by_account s x.words.now)) c.search.a c.search.invariant.0 c.search.invariant.2 (λ h. absurd (omega arith)))
 
-pub returns-then-gross-gt-MOST_GROSS : goal.returns-then-gross-gt-MOST_GROSS
-returns-then-gross-gt-MOST_GROSS c =
+pub returns-then-over : goal.returns-then-over
+returns-then-over c =
     let x = c.args in let s = x.s in let W = x.words.now in let P = x.prices.now in let L = x.lags.now in let g = get by_account s W in
     let a = c.search.a in let d = c.loop-d.d in let v = c.nat_abs-gross-in-loop-d in let h : a < s.n = omega arith in let l : d < dues = omega arith in
     let k = got s P L W a c.requires.ready c.requires.sized.few' h c.new_dues.new.new c.new_dues.ensures d v.result l v.ensures c.nat_abs-arg-1.given in
     sym (least-is s.n (over_gross P L s g) a c.search.invariant.0 c.search.invariant.2
     (λ h. lt-ltb most_gross (new_gross P L s g a)
-    (over-then (due-abs W s P L a) (nat_abs (g (cash a))) d c.loop-d.gross v.result c.loop-d.invariant.1 k.0 l c.if-gross-gt-MOST_GROSS.true)))
+    (over-then (due-abs W s P L a) (nat_abs (g (cash a))) d c.loop-d.gross v.result c.loop-d.invariant.1 k.0 l c.if-over.true)))
