@@ -5,7 +5,8 @@ usage: tools/respell.py        at the top of the repository, with everything com
 
 A word is in snake case: `isOneOf` becomes `is_one_of`. A dash joins two names that are defined somewhere, as in `length-listed`; where one of the two is a
 plain word the dash becomes `_`, as in `ratio_narrow`. Types, modules and facts keep their capitals. Names that would fall together with another keep their
-old spelling, and are printed. Functions of src/, strings, inputs and outputs are not touched. A second run changes nothing.
+old spelling, and are printed. Functions of src/, strings, inputs and outputs are not touched. It was run once, right after the toolchain's own script, on the
+commit that docs/PORT.md names, where each function's proof was one file; it is kept so that what it did can be had again there, and is not for the tree of today.
 """
 import collections
 import os
