@@ -6,6 +6,7 @@
 ghost use Rattle.std.specs.Prelude.{◌≤◌, length, IfOk};
 
 use std::env::{Env, FillError};
+use std::fmt::InlineText;
 use std::io::Read;
 use std::{fs, io};
 
@@ -37,13 +38,12 @@ fn end_of_words(words: &str) -> usize
 
 // Says on standard error what can not be read or written, and why. Where that can not be said either, nothing is left to say it to.
 fn fail(rt: &HostRuntime, what: &str, why: io::Error) {
-    if let Ok(words) = format!(in rt.alloc(); "{why}") {
-        let end = end_of_words(words.as_str());
-        let _ = rt.stderr().write_all(what.as_bytes());
-        let _ = rt.stderr().write_all(b": ");
-        let _ = rt.stderr().write_all(&words.as_str().as_bytes()[..end]);
-        let _ = rt.stderr().write_all(b"\n");
-    }
+    let words = InlineText::<512>::of(why);
+    let end = end_of_words(words.as_str());
+    let _ = rt.stderr().write_all(what.as_bytes());
+    let _ = rt.stderr().write_all(b": ");
+    let _ = rt.stderr().write_all(&words.as_str().as_bytes()[..end]);
+    let _ = rt.stderr().write_all(b"\n");
 }
 
 // Why an argument is the name of no file.
