@@ -1,7 +1,7 @@
 // Signed whole numbers: tests of range, size, sums and differences, the two ways of rounding. Every contract is exact.
 #![tactic(auto)]
 
-ghost use Rattle.std.specs.Prelude.{◌≡◌, ◌*◌, ◌≤◌, ◌<◌, ◌^◌, pos, nat_abs, ◌+ℤ◌, ◌-ℤ◌, ◌≤ℤ◌};
+ghost use Rattle.std.specs.Prelude.{cond, ◌≡◌, ◌*◌, ◌≤◌, ◌<◌, ◌^◌, pos, nat_abs, ◌+ℤ◌, ◌-ℤ◌, ◌≤ℤ◌};
 ghost use Rattle.whole.specs.Number as N;
 
 // Whether x lies between lo and hi.
@@ -43,6 +43,13 @@ pub fn is_one_of(x: i64, n: usize) -> bool
         return false;
     }
     nat_abs(x) < n as u64
+}
+
+// Which of n things, counted from 0, the number x names.
+pub fn index_of(x: i64, n: usize) -> Option<usize>
+    ensures { result ≡ cond (N.is_one_of n x) (Some (nat_abs x)) None }
+{
+    usize::try_from(x).ok().filter(|i| *i < n)
 }
 
 pub fn min(a: i64, b: i64) -> i64
