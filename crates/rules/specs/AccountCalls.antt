@@ -1,14 +1,16 @@
 -- 01, "The day", on one account: what a deposit, a withdrawal, a guarantee call, a transfer and a question do. Each answers a number, a
 -- figure and the account after the call; a refusal leaves the account as it was. The lowest number that applies is the answer.
-use Rattle.std.specs.Prelude.{Bool, ◌&&◌, ℕ, leb, ℤ, pos, ◌+ℤ◌, ◌-ℤ◌}
+use Rattle.std.specs.Prelude.{Bool, ◌&&◌, ℕ, leb, ℤ, pos, ◌+ℤ◌, ◌-ℤ◌, Result, Ok, Err}
 use Rattle.std.specs.Int.Signed.{le_z}
 use Rattle.whole.specs.Number.{between, unless}
 use Rattle.rules.specs.Sizes.{amount_ok, most_guarantee, most_gross}
+use Rattle.rules.specs.Refusal.{number_of, figure_of}
 use Rattle.rules.specs.Account.{is_broker, lg_value, limit_of, first_shortfall, second_shortfall, gross_of, account_ok}
 use Rattle.rules.specs.declared.Account.{Account}
 use Rattle.rules.specs.declared.Reply.{Reply}
 use Rattle.rules.specs.declared.Standing.{Standing}
-use Rattle.rules.specs.declared.Taken.{Taken}
+use Rattle.rules.specs.declared.Accepted.{Accepted}
+use Rattle.rules.specs.declared.refusal.Refusal.{Refusal}
 
 -- the account with another cash; with another guarantee and cap; with what is due now moved into cash
 abbrev pub with_cash : Account → ℤ → Account
@@ -21,6 +23,12 @@ with_guarantee account g c = record { kind = account.kind; cash = account.cash; 
 abbrev pub transferred : Account → Account
 transferred account = record { kind = account.kind; cash = account.cash +ℤ account.due0; guarantee = account.guarantee; cap = account.cap; margin = account.margin; due0 = pos 0; due1 = account.due1; due2 = account.due2 }
 
+-- what a call on one account answers: a number, a figure, and the account after it
+pub record Taken : Type 0 where
+  pub number : ℕ
+  pub figure : ℤ
+  pub account : Account
+
 -- taken, with its figure and the account after; refused, with the number and its figure, 0 where the paper names none
 abbrev pub taken : ℤ → Account → Taken
 taken z account = record { number = 0; figure = z; account = account }
@@ -30,6 +38,11 @@ refused_at k z account = record { number = k; figure = z; account = account }
 
 abbrev pub reply_of : Taken → Reply
 reply_of t = record { number = t.number; figure = t.figure }
+
+-- a call on an account that is accepted, or refused: a refusal gives the account back as it was
+abbrev pub outcome : Account → Result Accepted Refusal → Taken
+outcome account (Ok accepted) = taken accepted.figure accepted.account
+outcome account (Err refusal) = refused_at (number_of refusal) (figure_of refusal) account
 
 -- a deposit adds its amount to cash: 5 amount out of range, 10 gross would pass 10^15; the figure is the new cash
 unfoldable pub deposited : Account → ℤ → Taken

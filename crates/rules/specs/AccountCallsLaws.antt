@@ -13,9 +13,8 @@ use Rattle.rules.specs.Sizes.{amount_ok, most_gross, most_amount}
 use Rattle.rules.specs.Account.{is_broker, gross_of, account_ok, excess_one, excess_two, limit_of}
 use Rattle.rules.specs.AccountLaws.{account_tests, account-ok}
 use Rattle.rules.specs.ProductLaws.{at_least}
-use Rattle.rules.specs.AccountCalls.{with_cash, with_guarantee, transferred, taken, deposited, withdrawn, guaranteed, guarantee_ok}
+use Rattle.rules.specs.AccountCalls.{Taken, with_cash, with_guarantee, transferred, taken, deposited, withdrawn, guaranteed, guarantee_ok}
 use Rattle.rules.specs.declared.Account.{Account}
-use Rattle.rules.specs.declared.Taken.{Taken}
 
 -- ---- the limit
 

@@ -1,7 +1,8 @@
--- The rule book of document 01 on one account and one product. A reader believes the first four; the others are laws, and what a rule was before.
+-- The rule book of document 01 on one account and one product. A reader believes the first five; the others are laws, and what a rule was before.
 --   Sizes             the ranges of 01, "Units and sizes"
 --   Product           rate, Y, margin and daily difference of one product
 --   Account           the margin rules on one account: LG value, deposit, required margin, shortfalls, excesses, limit; gross; a sound record
+--   Refusal           number and figure of each refusal, and what is answered
 --   AccountCalls      what a deposit, a withdrawal, a guarantee call, a transfer and a question do to one account
 --   ProductLaws       the figures of one product are bounded
 --   AccountLaws       the figures of a sound account are bounded
@@ -12,6 +13,7 @@
 pub mod Sizes
 pub mod Product
 pub mod Account
+pub mod Refusal
 pub mod AccountCalls
 pub mod ProductLaws
 pub mod AccountLaws

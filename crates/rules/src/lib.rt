@@ -1,10 +1,15 @@
 // The rule book on one account and one product (document 01, "The margin rules" and "The day"), by value.
 #![tactic(auto)]
 
+ghost use Rattle.std.specs.Prelude.{◌≡◌};
+
 pub mod sizes; // the limits of every figure
+mod refusal; // why a call is refused, by number and figure
 pub mod products; // rate, Y, margin and daily difference of one product
 pub mod accounts; // the margin rules on one account, and what a sound record is
 pub mod calls; // deposit, withdrawal, guarantee, transfer and question on one account, and the teller window
+
+pub use refusal::Refusal;
 
 // What a call answers: 0 and a figure, or the refusal's number and its figure (01, "Numbers returned").
 #[repr(C)]
@@ -12,6 +17,22 @@ pub mod calls; // deposit, withdrawal, guarantee, transfer and question on one a
 pub struct Reply {
     pub number: u64,
     pub figure: i64,
+}
+
+impl From<Result<i64, Refusal>> for Reply {
+    ghost use Rattle.rules.specs.Refusal.{answer_of};
+
+    ghost from_gives = { λ outcome reply. reply ≡ answer_of outcome };
+
+    fn from(outcome: Result<i64, Refusal>) -> Reply {
+        match outcome {
+            Ok(figure) => Reply { number: 0, figure },
+            Err(refusal) => Reply {
+                number: refusal.number(),
+                figure: refusal.figure(),
+            },
+        }
+    }
 }
 
 // What a question answers: limit and both shortfalls, all three 0 when refused.
@@ -37,10 +58,9 @@ pub struct Account {
     pub due2: i64,
 }
 
-// A call on one account: its reply, and the account after it.
+// A call on one account that is accepted: its figure, and the account after it. A refused one leaves the account as it was.
 #[derive(Clone, Copy)]
-pub struct Taken {
-    pub number: u64,
+pub struct Accepted {
     pub figure: i64,
     pub account: Account,
 }

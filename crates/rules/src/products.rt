@@ -6,11 +6,14 @@ ghost use Rattle.rules.specs.ProductLaws.{Fair, lot_margin, margin_at, most_lot_
 
 use crate::{Product, sizes};
 
+// A margin and the difference of a cross are in hundred-thousandths of a yen.
+const LAKH: u64 = 100000;
+
 // Whether a product of this kind is a yen product.
 pub fn is_yen(kind: i64) -> bool
     ensures { result ≡ is_yen kind }
 {
-    whole::between(kind, 0, 0)
+    kind == 0
 }
 
 // The highest price of a product of this kind.
@@ -39,26 +42,24 @@ pub fn most_book(kind: i64) -> u64
 fn least_rate(mark: i64) -> i64
     ensures { result ≡ least_rate mark }
 {
-    if whole::between(mark, 0, 0) { 0 } else { 400 }
+    if mark == 0 { 0 } else { 400 }
 }
 
 // Source 001, article 4: the larger of the two rates, and at least the floor.
 pub fn rate_of(mark: i64, rate8: i64, rate104: i64) -> i64
     ensures { result ≡ rate_of mark rate8 rate104 }
 {
-    whole::max(whole::max(rate8, rate104), least_rate(mark))
+    rate8.max(rate104).max(least_rate(mark))
 }
 
 // The number of the product whose price is Y, for the product j: a cross's margin goes by its principal currency, never by its quote's.
 pub fn yen_product(product: Product, j: usize) -> usize
     ensures { result ≡ yen_product product j }
 {
-    let kind = product.kind;
-    let principal = product.principal;
-    if is_yen(kind) {
+    if is_yen(product.kind) {
         return j;
     }
-    whole::nat_abs(principal) as usize
+    product.principal.unsigned_abs() as usize
 }
 
 // The margin of one lot, before the division by 100,000 and its rounding: Y × rate. The same for every position in a product.
@@ -69,7 +70,7 @@ pub fn lot_margin(y: i64, rate: i64) -> u64
     requires pos_bound_2_2 { rate ≤ℤ pos most_rate }
     ensures { result ≡ lot_margin y rate }
 {
-    whole::up(y) * whole::up(rate)
+    y as u64 * rate as u64
 }
 
 // The margin of a position, rounded up, by the margin of a lot of its product.
@@ -78,7 +79,7 @@ pub fn margin_at(lots: i64, single: u64) -> u64
     requires single_le_most_lot_margin { single ≤ most_lot_margin }
     ensures { result ≡ margin_at lots single }
 {
-    whole::ceil_lakh(whole::nat_abs(lots) * single)
+    (lots.unsigned_abs() * single).div_ceil(LAKH)
 }
 
 // Source 001, 2(13): the margin of a position, rounded up.
@@ -100,7 +101,7 @@ pub fn difference_of(kind: i64, lots: i64, book: i64, price: i64, quoted: i64) -
 {
     let raw = lots * price - book;
     if is_yen(kind) {
-        return whole::floor_ten(raw);
+        return whole::floor_div::<10>(raw);
     }
-    whole::floor_lakh(raw * quoted)
+    whole::floor_div::<LAKH>(raw * quoted)
 }

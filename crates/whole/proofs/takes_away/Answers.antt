@@ -1,11 +1,10 @@
-use Rattle.whole.specs.Whole.{whole, known, facts, by, told}
+use Rattle.std.specs.Prelude.{pos, ◌-ℤ◌}
+use Rattle.std.proofs.Common.{◌∙◌, to_z, of_z, w64}
 use Rattle.whole.specs.Number.{takes_away}
+use Rattle.whole.specs.Whole.{whole, known, facts, by, told}
+use Rattle.whole.proofs.Extremes.{int_max-turned}
 use Rattle.whole.proofs.takes_away.Goals as goal
 
-pub returns-then-x-lt0 : goal.returns-then-x-lt0
+pub returns : goal.returns
 unfolding takes_away
-returns-then-x-lt0 c = by (search whole depth 20) (omega (facts, told c.if-x-lt0.true (search known depth 20) (omega facts)))
-
-pub returns-else-x-lt0 : goal.returns-else-x-lt0
-unfolding takes_away
-returns-else-x-lt0 c = by (search whole depth 20) (omega (facts, told c.if-x-lt0.false (search known depth 20) (omega facts)))
+returns c = by (search whole depth 20) (omega (facts, told (c.max.ensures.value ∙ int_max-turned (to_z w64 (of_z w64 (pos 0 -ℤ to_z w64 (of_z w64 c.args.x)))) (pos 0)) (search known depth 20) (omega facts)))

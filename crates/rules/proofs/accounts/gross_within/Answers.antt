@@ -39,14 +39,14 @@ sizes a b c d h = let p = parts a b c d in (omega arith, omega arith, omega arit
 pub returns-then-cash_size-due0_size-ge2305843009213693952 : goal.returns-then-cash_size-due0_size-ge2305843009213693952
 returns-then-cash_size-due0_size-ge2305843009213693952 c =
     let d = c in
-    let l = large d.nat_abs-cash_size.result d.nat_abs-due0_size.result d.nat_abs-due1_size.result d.nat_abs-due2_size.result c.if-cash_size-due0_size-ge2305843009213693952.true in
+    let l = large d.unsigned_abs-cash_size.result d.unsigned_abs-due0_size.result d.unsigned_abs-due1_size.result d.unsigned_abs-due2_size.result c.if-cash_size-due0_size-ge2305843009213693952.true in
     by (search whole depth 20) (omega (facts, l))
 
 pub overflow_add-result : goal.overflow_add-result
-overflow_add-result c = let z = sizes c.nat_abs-cash_size.result c.nat_abs-due0_size.result c.nat_abs-due1_size.result c.nat_abs-due2_size.result c.if-cash_size-due0_size-ge2305843009213693952.false in omega arith
+overflow_add-result c = let z = sizes c.unsigned_abs-cash_size.result c.unsigned_abs-due0_size.result c.unsigned_abs-due1_size.result c.unsigned_abs-due2_size.result c.if-cash_size-due0_size-ge2305843009213693952.false in omega arith
 
 pub overflow_add-result-2 : goal.overflow_add-result-2
-overflow_add-result-2 c = let z = sizes c.nat_abs-cash_size.result c.nat_abs-due0_size.result c.nat_abs-due1_size.result c.nat_abs-due2_size.result c.if-cash_size-due0_size-ge2305843009213693952.false in omega arith
+overflow_add-result-2 c = let z = sizes c.unsigned_abs-cash_size.result c.unsigned_abs-due0_size.result c.unsigned_abs-due1_size.result c.unsigned_abs-due2_size.result c.if-cash_size-due0_size-ge2305843009213693952.false in omega arith
 
 pub overflow_add-result-3 : goal.overflow_add-result-3
-overflow_add-result-3 c = let z = sizes c.nat_abs-cash_size.result c.nat_abs-due0_size.result c.nat_abs-due1_size.result c.nat_abs-due2_size.result c.if-cash_size-due0_size-ge2305843009213693952.false in omega arith
+overflow_add-result-3 c = let z = sizes c.unsigned_abs-cash_size.result c.unsigned_abs-due0_size.result c.unsigned_abs-due1_size.result c.unsigned_abs-due2_size.result c.if-cash_size-due0_size-ge2305843009213693952.false in omega arith

@@ -38,24 +38,24 @@ quoted-fits c = let s = c in small (raw s.before.before *ℤ s.args.quoted) 3000
 pub overflow_sub-raw : goal.overflow_sub-raw
 overflow_sub-raw c = rw (arg c.ranges.lots, arg c.ranges.price, arg (times-fits c), arg c.ranges.book) (raw-fits c)
 
-pub floor_ten-requires : goal.floor_ten-requires
-floor_ten-requires c = let s = c in rw (raw-is (goal.at.floor_ten-requires s).Start) (omega (arith, raw_in s.args.kind s.args.lots s.args.book s.args.price s.args.quoted s.requires))
+pub floor_div-requires-clause-size : goal.floor_div-requires-clause-size
+floor_div-requires-clause-size c = let s = c in rw (raw-is (goal.at.floor_div-requires-clause-size s).Start) (omega (arith, raw_in s.args.kind s.args.lots s.args.book s.args.price s.args.quoted s.requires))
 
 pub returns-then-is_yen : goal.returns-then-is_yen
 unfolding difference_of
 returns-then-is_yen c =
     let s = c in
-    rw (test (goal.at.returns-then-is_yen c).After-is_yen ∙ c.if-is_yen.true) (came c.floor_ten.result c.floor_ten.type_inv (c.floor_ten.ensures ∙ ap (λ z. floor_div z 10) (raw-is (goal.at.returns-then-is_yen s).Start)))
+    rw (test (goal.at.returns-then-is_yen c).After-is_yen ∙ c.if-is_yen.true) (came c.floor_div.result c.floor_div.type_inv (c.floor_div.ensures ∙ ap (λ z. floor_div z 10) (raw-is (goal.at.returns-then-is_yen s).Start)))
 
 pub overflow_mul-raw-2 : goal.overflow_mul-raw-2
 overflow_mul-raw-2 c = let s = c in rw (raw-is (goal.at.overflow_mul-raw-2 s).Start, arg s.ranges.quoted) (quoted-fits c)
 
-pub floor_lakh-requires : goal.floor_lakh-requires
-floor_lakh-requires c = let s = c in rw (raw-is (goal.at.floor_lakh-requires s).Start, arg s.ranges.quoted, arg (quoted-fits c)) (omega (arith, quoted-most c))
+pub floor_div-requires-2-clause-size : goal.floor_div-requires-2-clause-size
+floor_div-requires-2-clause-size c = let s = c in rw (raw-is (goal.at.floor_div-requires-2-clause-size s).Start, arg s.ranges.quoted, arg (quoted-fits c)) (omega (arith, quoted-most c))
 
 pub returns : goal.returns
 unfolding difference_of
 returns c =
     let s = c in
     rw (test (goal.at.returns c).After-is_yen ∙ c.if-is_yen.false)
-    (came c.floor_lakh.result c.floor_lakh.type_inv (c.floor_lakh.ensures ∙ ap (λ z. floor_div z 100000) (rw (raw-is (goal.at.returns s).Start, arg s.ranges.quoted) (arg (quoted-fits (goal.at.returns c).Else-is_yen)))))
+    (came c.floor_div-2.result c.floor_div-2.type_inv (c.floor_div-2.ensures ∙ ap (λ z. floor_div z 100000) (rw (raw-is (goal.at.returns s).Start, arg s.ranges.quoted) (arg (quoted-fits (goal.at.returns c).Else-is_yen)))))
