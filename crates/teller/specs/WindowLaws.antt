@@ -3,10 +3,9 @@ use Rattle.std.specs.Prelude.{◌≡◌, refl, true, false, ℤ, pos}
 use Rattle.whole.specs.Tests.{unless-both}
 use Rattle.whole.specs.Number.{unless}
 use Rattle.rules.specs.Account.{account_ok}
-use Rattle.rules.specs.AccountCalls.{with_cash, refused_at, deposited, withdrawn, teller_deposit, teller_withdrawal}
+use Rattle.rules.specs.AccountCalls.{Taken, with_cash, refused_at, deposited, withdrawn, teller_deposit, teller_withdrawal}
 use Rattle.rules.specs.AccountCallsLaws.{deposited-keeps, deposited-changes, deposited-refused, withdrawn-keeps, withdrawn-changes, withdrawn-refused}
 use Rattle.rules.specs.declared.Account.{Account}
-use Rattle.rules.specs.declared.Taken.{Taken}
 use Rattle.teller.specs.WindowRule.{RecordRule}
 
 -- a window, over the day's rule for a sound account
