@@ -12,10 +12,9 @@ ghost use Rattle.places.specs.ByAccount.{by_account};
 ghost use Rattle.places.specs.Act.{most_accounts, most_products, shape_of, shape_ok};
 ghost use Rattle.soundness.specs.Sound as S;
 ghost use Rattle.soundness.specs.SoundLaws.{records_ok};
-ghost use Rattle.soundness.specs.Perform as P;
 
 use places::Shape;
-use rules::{Account, Reply};
+use rules::Account;
 
 // What the words may state: accounts n 1..64, products p 1..16.
 const MOST_ACCOUNTS: i64 = places::MOST_ACCOUNTS as i64;
@@ -26,16 +25,6 @@ pub mod positions;
 pub mod products;
 pub mod run;
 
-// A refusal whose figure is 0.
-pub fn refused(number: u64) -> Reply
-    ensures { result ≡ (P.refuse number).answer }
-{
-    Reply {
-        number: number,
-        figure: 0,
-    }
-}
-
 // ---- accounts
 
 // The record of the account a.
@@ -44,23 +33,15 @@ pub fn account_at(words: &[i64], s: Shape, a: usize) -> Account
     requires a_lt_n { a < s.n }
     ensures { result ≡ S.account_at (get by_account s words.now) a }
 {
-    let kind = places::acct_word(words, s, a, places::KIND);
-    let cash = places::acct_word(words, s, a, places::CASH);
-    let guarantee = places::acct_word(words, s, a, places::GUARANTEE);
-    let cap = places::acct_word(words, s, a, places::CAP);
-    let margin = places::acct_word(words, s, a, places::MARGIN);
-    let due0 = places::acct_word(words, s, a, places::FIRST_DUE);
-    let due1 = places::acct_word(words, s, a, places::FIRST_DUE + 1);
-    let due2 = places::acct_word(words, s, a, places::FIRST_DUE + 2);
     Account {
-        kind: kind,
-        cash: cash,
-        guarantee: guarantee,
-        cap: cap,
-        margin: margin,
-        due0: due0,
-        due1: due1,
-        due2: due2,
+        kind: places::acct_word(words, s, a, places::KIND),
+        cash: places::acct_word(words, s, a, places::CASH),
+        guarantee: places::acct_word(words, s, a, places::GUARANTEE),
+        cap: places::acct_word(words, s, a, places::CAP),
+        margin: places::acct_word(words, s, a, places::MARGIN),
+        due0: places::acct_word(words, s, a, places::FIRST_DUE),
+        due1: places::acct_word(words, s, a, places::FIRST_DUE + 1),
+        due2: places::acct_word(words, s, a, places::FIRST_DUE + 2),
     }
 }
 
@@ -68,14 +49,10 @@ fn accounts_ok(words: &[i64], s: Shape) -> bool
     requires { Sized s words.now }
     ensures { result ≡ all s.n (λ a. account_ok (S.account_at (get by_account s words.now) a)) }
 {
-    let n = s.n;
-    let mut a = 0;
-    while a < n {
-        let account = account_at(words, s, a);
-        if !rules::accounts::account_ok(account) {
+    for a in 0..s.n {
+        if !rules::accounts::account_ok(account_at(words, s, a)) {
             return false;
         }
-        a += 1;
     }
     true
 }
@@ -87,17 +64,13 @@ fn head_ok(words: &[i64], s: Shape) -> bool
     requires { Sized s words.now }
     ensures { result ≡ S.head_ok s (get by_account s words.now) }
 {
-    if !whole::within(
+    whole::within(
         places::head_word(words, s, places::HOUSE),
         rules::sizes::MOST_HOUSE,
-    ) {
-        return false;
-    }
-    let n = s.n;
-    whole::between(
+    ) && whole::between(
         places::head_word(words, s, places::PHASE),
         0,
-        (n + 1) as i64,
+        (s.n + 1) as i64,
     )
 }
 
@@ -106,13 +79,7 @@ fn records_ok(words: &[i64], s: Shape) -> bool
     requires { Sized s words.now }
     ensures { result ≡ records_ok s (get by_account s words.now) }
 {
-    if !head_ok(words, s) {
-        return false;
-    }
-    if !products::products_ok(words, s) {
-        return false;
-    }
-    accounts_ok(words, s)
+    head_ok(words, s) && products::products_ok(words, s) && accounts_ok(words, s)
 }
 
 // The positions are most of the words. They come last, after the clauses of the run, so that no other figure is kept during the walk over them.
@@ -120,13 +87,7 @@ fn places_ok(words: &[i64], s: Shape) -> bool
     requires { Sized s words.now }
     ensures { result ≡ S.places_ok s (get by_account s words.now) }
 {
-    if !records_ok(words, s) {
-        return false;
-    }
-    if !run::run_ok(words, s) {
-        return false;
-    }
-    positions::all_positions_ok(words, s)
+    records_ok(words, s) && run::run_ok(words, s) && positions::all_positions_ok(words, s)
 }
 
 // ---- the gate
@@ -136,9 +97,10 @@ fn stated_count(x: i64, most: i64) -> usize
     ensures { result ≡ cond (between (pos 1) most x) (nat_abs x) 0 }
 {
     if whole::between(x, 1, most) {
-        return whole::nat_abs(x) as usize;
+        x as usize
+    } else {
+        0
     }
-    0
 }
 
 // The numbers of accounts and of products that the words state, each 0 where it is out of range.
@@ -148,7 +110,7 @@ pub fn shape_of(words: &[i64]) -> Shape
 {
     let n = stated_count(words[places::ACCOUNTS], MOST_ACCOUNTS);
     let p = stated_count(words[places::PRODUCTS], MOST_PRODUCTS);
-    Shape { n: n, p: p }
+    Shape { n, p }
 }
 
 // Whether the words have the length of a ledger of their shape, of one account and one product at least.
@@ -156,27 +118,29 @@ fn shape_ok(words: &[i64], s: Shape) -> bool
     requires { (s.n ≤ most_accounts) × (s.p ≤ most_products) }
     ensures { result ≡ shape_ok words.now s }
 {
-    let n = s.n;
-    let p = s.p;
-    if n < 1 {
-        return false;
-    }
-    if p < 1 {
-        return false;
-    }
-    words.len() == places::words_of(s)
+    1 <= s.n && 1 <= s.p && words.len() == places::words_of(s)
 }
 
-// Whether the words are a sound ledger. The counts are tested before the length is computed.
-pub fn sound(words: &[i64]) -> bool
-    ensures { result ≡ S.sound by_account words.now }
+// The shape of a sound ledger. The counts are tested before the length is computed.
+pub fn sound_shape(words: &[i64]) -> Option<Shape>
+    ensures { result ≡ cond (S.sound by_account words.now) (Some (shape_of words.now)) None }
 {
     if words.len() < places::HEADS {
-        return false;
+        return None;
     }
     let s = shape_of(words);
     if !shape_ok(words, s) {
-        return false;
+        return None;
     }
-    places_ok(words, s)
+    if !places_ok(words, s) {
+        return None;
+    }
+    Some(s)
+}
+
+// Whether the words are a sound ledger.
+pub fn sound(words: &[i64]) -> bool
+    ensures { result ≡ S.sound by_account words.now }
+{
+    sound_shape(words).is_some()
 }

@@ -19,10 +19,7 @@ pub fn held_in(lots: i64, book: i64, most: u64) -> bool
     requires { most < 2 ^ 63 }
     ensures { result ≡ (within most_lots lots && within most book) }
 {
-    if !whole::within(lots, MOST_LOTS) {
-        return false;
-    }
-    whole::within(book, most)
+    whole::within(lots, MOST_LOTS) && whole::within(book, most)
 }
 
 // The position of the account a in the product j, whose book may be at most `most` in size.
@@ -43,13 +40,11 @@ fn two_ok(words: &[i64], s: Shape, j: usize, k: usize) -> bool
     requires j_lt_p { (j < s.p) × (k < s.p) }
     ensures { result ≡ (S.positions_ok s.n (get by_account s words.now) j && S.positions_ok s.n (get by_account s words.now) k) }
 {
-    let n = s.n;
     let most = rules::products::most_book(places::prod_word(words, s, j, places::PRODUCT_KIND));
     let other = rules::products::most_book(places::prod_word(words, s, k, places::PRODUCT_KIND));
     let mut sum: i64 = 0;
     let mut rest: i64 = 0;
-    let mut a = 0;
-    while a < n {
+    for a in 0..s.n {
         if !position_ok(words, s, a, j, most) {
             return false;
         }
@@ -58,12 +53,8 @@ fn two_ok(words: &[i64], s: Shape, j: usize, k: usize) -> bool
         }
         sum += places::held_word(words, s, a, j, places::LOTS);
         rest += places::held_word(words, s, a, k, places::LOTS);
-        a += 1;
     }
-    if !whole::between(sum, 0, 0) {
-        return false;
-    }
-    whole::between(rest, 0, 0)
+    sum == 0 && rest == 0
 }
 
 // The product that is looked at beside j: the next one, or the last of them beside itself.

@@ -23,12 +23,10 @@ fn names_yen(words: &[i64], s: Shape, j: usize, f: usize) -> bool
     requires has { Has s (prod j f) }
     ensures { result ≡ S.names_yen (get by_account s words.now) j (prod j f) }
 {
-    let x = places::prod_word(words, s, j, f);
-    if !whole::is_one_of(x, j) {
-        return false;
+    match whole::index_of(places::prod_word(words, s, j, f), j) {
+        Some(k) => prod_between(words, s, k, places::PRODUCT_KIND, 0, 0),
+        None => false,
     }
-    let k = whole::nat_abs(x) as usize;
-    prod_between(words, s, k, places::PRODUCT_KIND, 0, 0)
 }
 
 fn yen_pair(words: &[i64], s: Shape, j: usize) -> bool
@@ -36,10 +34,8 @@ fn yen_pair(words: &[i64], s: Shape, j: usize) -> bool
     requires j_lt_p { j < s.p }
     ensures { result ≡ S.yen_pair (get by_account s words.now) j }
 {
-    if !prod_between(words, s, j, places::PRINCIPAL, 0, 0) {
-        return false;
-    }
-    prod_between(words, s, j, places::QUOTE, 0, 0)
+    prod_between(words, s, j, places::PRINCIPAL, 0, 0)
+        && prod_between(words, s, j, places::QUOTE, 0, 0)
 }
 
 fn cross_pair(words: &[i64], s: Shape, j: usize) -> bool
@@ -53,8 +49,8 @@ fn cross_pair(words: &[i64], s: Shape, j: usize) -> bool
     if !names_yen(words, s, j, places::QUOTE) {
         return false;
     }
-    !(whole::nat_abs(places::prod_word(words, s, j, places::PRINCIPAL))
-        == whole::nat_abs(places::prod_word(words, s, j, places::QUOTE)))
+    places::prod_word(words, s, j, places::PRINCIPAL).unsigned_abs()
+        != places::prod_word(words, s, j, places::QUOTE).unsigned_abs()
 }
 
 pub fn pair_ok(words: &[i64], s: Shape, j: usize) -> bool
@@ -90,13 +86,10 @@ pub fn products_ok(words: &[i64], s: Shape) -> bool
     requires { Sized s words.now }
     ensures { result ≡ all s.p (S.product_ok (get by_account s words.now)) }
 {
-    let p = s.p;
-    let mut j = 0;
-    while j < p {
+    for j in 0..s.p {
         if !product_ok(words, s, j) {
             return false;
         }
-        j += 1;
     }
     true
 }

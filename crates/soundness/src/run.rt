@@ -18,12 +18,10 @@ fn done_ok(words: &[i64], s: Shape, done: usize) -> bool
     requires done_le_n { done ≤ s.n }
     ensures { result ≡ all done (λ a. is 0 (get by_account s words.now (due a 0))) }
 {
-    let mut a = 0;
-    while a < done {
-        if !whole::between(places::acct_word(words, s, a, places::FIRST_DUE), 0, 0) {
+    for a in 0..done {
+        if places::acct_word(words, s, a, places::FIRST_DUE) != 0 {
             return false;
         }
-        a += 1;
     }
     true
 }
@@ -36,15 +34,12 @@ pub fn stays(words: &[i64], s: Shape, house: i64, from: usize) -> bool
     requires from_le_n { from ≤ s.n }
     ensures { result ≡ S.stays (s.n - from) house from (get by_account s words.now) }
 {
-    let n = s.n;
     let mut h = house;
-    let mut a = from;
-    while a < n {
+    for a in from..s.n {
         h -= places::acct_word(words, s, a, places::FIRST_DUE);
         if !whole::within(h, rules::sizes::MOST_HOUSE) {
             return false;
         }
-        a += 1;
     }
     true
 }
@@ -55,7 +50,7 @@ pub fn run_ok(words: &[i64], s: Shape) -> bool
     requires words_value { records_ok s (get by_account s words.now) ≡ true }
     ensures { result ≡ (S.done_ok (get by_account s words.now) && S.to_come_ok s (get by_account s words.now)) }
 {
-    let turn = whole::nat_abs(places::head_word(words, s, places::PHASE)) as usize;
+    let turn = places::head_word(words, s, places::PHASE).unsigned_abs() as usize;
     if turn < 1 {
         return true;
     }

@@ -15,7 +15,7 @@ abbrev test : Start → ℕ → Bool
 test s = ok s.args.words.now s.args.s
 
 tested : (c : After-account_ok) → let l = c in c.account_ok.result ≡ test l.before.before.before.before l.loop-a.a
-tested c = c.account_ok.ensures ∙ ap account_ok c.account_at-account.ensures
+tested c = c.account_ok.ensures ∙ ap account_ok c.account_at.ensures
 
 pub returns-then-not-account_ok : goal.returns-then-not-account_ok
 returns-then-not-account_ok c =

@@ -1,5 +1,5 @@
 -- `accounts_ok` meets its contract: the accounts before a passed. Assumes nothing.
-use Prim.Native.Nat.{ℕ, ◌-◌, ◌≤◌}
+use Prim.Native.Nat.{ℕ}
 use mathlib.Core.Path.{◌≡◌}
 use mathlib.Core.Bool.{Bool, true}
 use mathlib.Core.List.{List}
@@ -16,7 +16,4 @@ abbrev pub ok : List ℤ → Shape → ℕ → Bool
 ok W s a = account_ok (account_at (get by_account s W) a)
 
 abbrev pub invariant-loop-a : goal.invariant-loop-a
-invariant-loop-a l = (l.a ≤ l.n) × (all l.a (ok l.words l.s) ≡ true)
-
-abbrev pub decreases-loop-a : goal.decreases-loop-a
-decreases-loop-a l = l.n - l.a
+invariant-loop-a l = (all l.a (ok l.words l.s) ≡ true)

@@ -15,6 +15,7 @@ use Rattle.whole.specs.CountingLaws.{all-fails, all_more}
 use Rattle.whole.specs.Reps.{small}
 use Rattle.whole.specs.Signs.{arg, came}
 use Rattle.whole.specs.Tests.{holds, fails}
+use Rattle.whole.proofs.Zero.{bits-is}
 use Rattle.rules.specs.Sizes.{most_lots}
 use Rattle.places.specs.declared.Shape.{Shape}
 use Rattle.places.specs.Place.{View, get, lots}
@@ -73,29 +74,28 @@ returns-then-not-position_ok-2 c =
 pub overflow_add-sum : goal.overflow_add-sum
 overflow_add-sum c =
     let w = c.held_word-sum in
-    fits c.args.words.now c.args.s c.args.j c.loop-a.a c.loop-a.sum-bits w.result (omega (arith, c.requires.sized.few)) c.loop-a.invariant.1
+    fits c.args.words.now c.args.s c.args.j c.loop-a.a c.loop-a.sum-bits w.result (omega (arith, c.requires.sized.few)) c.loop-a.invariant.0
     (holds c.position_ok.ensures (ap not c.if-not-position_ok.false)) (came w.result w.type_inv w.ensures)
 
 pub overflow_add-rest : goal.overflow_add-rest
 overflow_add-rest c =
     let w = c.held_word-rest in
-    fits c.args.words.now c.args.s c.args.k c.loop-a.a c.loop-a.rest-bits w.result (omega (arith, c.requires.sized.few)) c.loop-a.invariant.2
+    fits c.args.words.now c.args.s c.args.k c.loop-a.a c.loop-a.rest-bits w.result (omega (arith, c.requires.sized.few)) c.loop-a.invariant.1
     (holds c.position_ok-in-loop-a.ensures (ap not c.if-not-position_ok-2.false)) (came w.result w.type_inv w.ensures)
 
 pub loop-a-preserved : goal.loop-a-preserved
 loop-a-preserved c =
     let v = c.held_word-sum in let w = c.held_word-rest in (
-      omega arith,
-      walked c.args.words.now c.args.s c.args.j c.loop-a.a c.loop-a.sum-bits v.result (omega (arith, c.requires.sized.few)) c.loop-a.invariant.1
+      walked c.args.words.now c.args.s c.args.j c.loop-a.a c.loop-a.sum-bits v.result (omega (arith, c.requires.sized.few)) c.loop-a.invariant.0
           (holds c.position_ok.ensures (ap not c.if-not-position_ok.false)) (came v.result v.type_inv v.ensures),
-      walked c.args.words.now c.args.s c.args.k c.loop-a.a c.loop-a.rest-bits w.result (omega (arith, c.requires.sized.few)) c.loop-a.invariant.2
+      walked c.args.words.now c.args.s c.args.k c.loop-a.a c.loop-a.rest-bits w.result (omega (arith, c.requires.sized.few)) c.loop-a.invariant.1
           (holds c.position_ok-in-loop-a.ensures (ap not c.if-not-position_ok-2.false)) (came w.result w.type_inv w.ensures),
     )
 
-pub returns : goal.returns
-returns c =
+pub returns-then-sum-eq0 : goal.returns-then-sum-eq0
+returns-then-sum-eq0 c =
     let W = c.args.words.now in let s = c.args.s in let l = c.loop-a in
     let e : l.a ≡ s.n = omega arith in
-    c.between-2.ensures
-    ∙ sym (rw (done W s c.args.j l.a (to_z w64 l.sum-bits) e l.invariant.1, holds c.between.ensures (ap not c.if-not-between.false))
-    (done W s c.args.k l.a (to_z w64 l.rest-bits) e l.invariant.2))
+    let z : is 0 (to_z w64 l.sum-bits) ≡ true = ap (λ b. is 0 (to_z w64 b)) c.if-sum-eq0.true in
+    bits-is l.rest-bits l.auto.rest-fits
+    ∙ sym (rw (done W s c.args.j l.a (to_z w64 l.sum-bits) e l.invariant.0, z) (done W s c.args.k l.a (to_z w64 l.rest-bits) e l.invariant.1))

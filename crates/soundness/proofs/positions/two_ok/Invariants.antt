@@ -2,7 +2,7 @@
 use mathlib.Core.Bool.{true}
 use mathlib.Core.List.{List}
 use mathlib.Core.Path.{◌≡◌}
-use Prim.Native.Nat.{ℕ, ◌-◌, ◌≤◌}
+use Prim.Native.Nat.{ℕ}
 use lib.IntN.{ℤ}
 use Rattle.whole.specs.Counting.{all, sum}
 use Rattle.places.specs.declared.Shape.{Shape}
@@ -16,7 +16,4 @@ abbrev pub Walked : List ℤ → Shape → ℕ → ℕ → ℤ → Type 0
 Walked W s j a t = (all a (held_ok (get by_account s W) j) ≡ true) × (t ≡ sum a (λ b. get by_account s W (lots b j)))
 
 abbrev pub invariant-loop-a : goal.invariant-loop-a
-invariant-loop-a l = (l.a ≤ l.n) × Walked l.words l.s l.j l.a l.sum × Walked l.words l.s l.k l.a l.rest
-
-abbrev pub decreases-loop-a : goal.decreases-loop-a
-decreases-loop-a l = l.n - l.a
+invariant-loop-a l = Walked l.words l.s l.j l.a l.sum × Walked l.words l.s l.k l.a l.rest

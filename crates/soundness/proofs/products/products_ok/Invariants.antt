@@ -1,5 +1,5 @@
 -- `products_ok` meets its contract: the products before j passed. Assumes nothing.
-use Prim.Native.Nat.{ℕ, ◌-◌, ◌≤◌}
+use Prim.Native.Nat.{ℕ}
 use mathlib.Core.Path.{◌≡◌}
 use mathlib.Core.Bool.{Bool, true}
 use mathlib.Core.List.{List}
@@ -15,7 +15,4 @@ abbrev pub ok : List ℤ → Shape → ℕ → Bool
 ok W s = product_ok (get by_account s W)
 
 abbrev pub invariant-loop-j : goal.invariant-loop-j
-invariant-loop-j l = (l.j ≤ l.p) × (all l.j (ok l.words l.s) ≡ true)
-
-abbrev pub decreases-loop-j : goal.decreases-loop-j
-decreases-loop-j l = l.p - l.j
+invariant-loop-j l = (all l.j (ok l.words l.s) ≡ true)

@@ -1,5 +1,5 @@
 -- `done_ok` meets its contract: due 0 is zero in the accounts before a. Assumes nothing.
-use Prim.Native.Nat.{ℕ, ◌-◌, ◌≤◌}
+use Prim.Native.Nat.{ℕ}
 use mathlib.Core.Path.{◌≡◌}
 use mathlib.Core.Bool.{Bool, true}
 use mathlib.Core.List.{List}
@@ -15,7 +15,4 @@ abbrev pub ok : List ℤ → Shape → ℕ → Bool
 ok W s a = is 0 (get by_account s W (due a 0))
 
 abbrev pub invariant-loop-a : goal.invariant-loop-a
-invariant-loop-a l = (l.a ≤ l.done) × (all l.a (ok l.words l.s) ≡ true)
-
-abbrev pub decreases-loop-a : goal.decreases-loop-a
-decreases-loop-a l = l.done - l.a
+invariant-loop-a l = (all l.a (ok l.words l.s) ≡ true)

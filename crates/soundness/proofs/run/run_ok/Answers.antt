@@ -9,14 +9,14 @@ use Rattle.places.specs.Place.{View, get, phase}
 use Rattle.places.specs.ByAccount.{by_account}
 use Rattle.soundness.specs.Sound as S
 use Rattle.soundness.specs.SoundLaws.{phase_in, house_in, dues_in}
-use Rattle.soundness.proofs.run.run_ok.Goals.{After-done_ok, After-nat_abs-turn, Start}
+use Rattle.soundness.proofs.run.run_ok.Goals.{After-done_ok, After-unsigned_abs-turn, Start}
 use Rattle.soundness.proofs.run.run_ok.Goals as goal
 
 abbrev g : Start → View
 g s = get by_account s.args.s s.args.words.now
 
-turned : (c : After-nat_abs-turn) → c.nat_abs-turn.result ≡ S.turn (g c.before.before)
-turned c = let w = c.head_word in c.nat_abs-turn.ensures ∙ ap nat_abs (came w.result w.type_inv w.ensures)
+turned : (c : After-unsigned_abs-turn) → c.unsigned_abs-turn.result ≡ S.turn (g c.before.before)
+turned c = let w = c.head_word in c.unsigned_abs-turn.ensures.value ∙ ap nat_abs (came w.result w.type_inv w.ensures)
 
 -- the phase is one of the ledger's
 most : (s : Start) → S.turn (g s) ≤ s.args.s.n + 1
@@ -24,4 +24,4 @@ most s = (in-range 0 (s.args.s.n + 1) (g s phase) (phase_in s.args.s (g s) s.req
 
 pub stays-requires : goal.stays-requires
 stays-requires c = let w = c.head_word-2 in let d = c in let s = d in
-    record { sized = s.requires.sized; dues_in = dues_in s.args.s (g (goal.at.stays-requires s).Start) s.requires.words_value; house_bound = rw (came w.result w.type_inv w.ensures) (house_in s.args.s (g (goal.at.stays-requires s).Start) s.requires.words_value); from_le_n = omega (arith, turned (goal.at.stays-requires d).After-nat_abs-turn, most (goal.at.stays-requires s).Start) }
+    record { sized = s.requires.sized; dues_in = dues_in s.args.s (g (goal.at.stays-requires s).Start) s.requires.words_value; house_bound = rw (came w.result w.type_inv w.ensures) (house_in s.args.s (g (goal.at.stays-requires s).Start) s.requires.words_value); from_le_n = omega (arith, turned (goal.at.stays-requires d).After-unsigned_abs-turn, most (goal.at.stays-requires s).Start) }

@@ -37,9 +37,9 @@ returns-then-not-within c =
     let a = c.loop-a.a in
     let h = c.loop-a.h-bits in
     let w = c.acct_word-h in
-    let e = back h w.result (g (due a 0)) (came w.result w.type_inv w.ensures) (c.requires.dues_in.at a (omega arith)) c.loop-a.invariant.1 in
+    let e = back h w.result (g (due a 0)) (came w.result w.type_inv w.ensures) (c.requires.dues_in.at a (omega arith)) c.loop-a.invariant.0 in
     let t = c.within.ensures ∙ ap (within most_house) e in
-    let k = walk g c.args.s.n c.args.from a (to_z w64 (of_z w64 c.args.house)) c.args.house (to_z w64 h) (arg c.ranges.house) (omega arith) c.loop-a.invariant.2 in
+    let k = walk g c.args.s.n c.args.from a (to_z w64 (of_z w64 c.args.house)) c.args.house (to_z w64 h) (arg c.ranges.house) (omega arith) c.loop-a.invariant.1 in
     sym (k ∙ rw (fails t (ap not c.if-not-within.true)) refl)
 
 pub loop-a-preserved : goal.loop-a-preserved
@@ -49,10 +49,9 @@ loop-a-preserved c =
     let h = c.loop-a.h-bits in
     let w = c.acct_word-h in
     let next = to_z w64 h -ℤ g (due a 0) in
-    let e = back h w.result (g (due a 0)) (came w.result w.type_inv w.ensures) (c.requires.dues_in.at a (omega arith)) c.loop-a.invariant.1 in
+    let e = back h w.result (g (due a 0)) (came w.result w.type_inv w.ensures) (c.requires.dues_in.at a (omega arith)) c.loop-a.invariant.0 in
     let ok : within most_house next ≡ true = holds (c.within.ensures ∙ ap (within most_house) e) (ap not c.if-not-within.false) in
-    let k = walk g c.args.s.n c.args.from a (to_z w64 (of_z w64 c.args.house)) c.args.house (to_z w64 h) (arg c.ranges.house) (omega arith) c.loop-a.invariant.2 in (
-      omega arith,
+    let k = walk g c.args.s.n c.args.from a (to_z w64 (of_z w64 c.args.house)) c.args.house (to_z w64 h) (arg c.ranges.house) (omega arith) c.loop-a.invariant.1 in (
       rw e (within_true most_house next ok),
       ap (λ z. S.stays (c.args.s.n - c.args.from) z c.args.from g) (arg c.ranges.house)
           ∙ k ∙ rw ok (ap (λ z. S.stays (c.args.s.n - (a + 1)) z (a + 1) g) (sym e)),

@@ -9,7 +9,4 @@ use Rattle.soundness.specs.Sound as S
 use Rattle.soundness.proofs.run.stays.Given as goal
 
 abbrev pub invariant-loop-a : goal.invariant-loop-a
-invariant-loop-a l = (l.a ≤ l.n) × (nat_abs l.h ≤ most_house) × (S.stays (l.n - l.from) l.house l.from (get by_account l.s l.words) ≡ S.stays (l.n - l.a) l.h l.a (get by_account l.s l.words))
-
-abbrev pub decreases-loop-a : goal.decreases-loop-a
-decreases-loop-a l = l.n - l.a
+invariant-loop-a l = (nat_abs l.h ≤ most_house) × (S.stays (l.s.n - l.from) l.house l.from (get by_account l.s l.words) ≡ S.stays (l.s.n - l.a) l.h l.a (get by_account l.s l.words))
