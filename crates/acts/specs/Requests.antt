@@ -2,11 +2,10 @@
 -- crate `rules`'; here the record is read off the ledger, and what changed is put back. Refusals: 3 no such account, then the rule's own.
 use Rattle.std.specs.Prelude.{List, [], ◌∷◌, cond, ℕ, eqb, ℤ, nat_abs}
 use Rattle.whole.specs.Number.{is_one_of, unless}
-use Rattle.rules.specs.AccountCalls.{deposited, withdrawn, guaranteed, standing_of, reply_of}
+use Rattle.rules.specs.AccountCalls.{Taken, deposited, withdrawn, guaranteed, standing_of, reply_of}
 use Rattle.rules.specs.declared.Account.{Account}
 use Rattle.rules.specs.declared.Reply.{Reply}
 use Rattle.rules.specs.declared.Standing.{Standing}
-use Rattle.rules.specs.declared.Taken.{Taken}
 use Rattle.places.specs.Place.{Put, ◌≔◌, cash, guarantee, cap}
 use Rattle.places.specs.Act.{Act, Rule}
 use Rattle.soundness.specs.Sound.{account_at}

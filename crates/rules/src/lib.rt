@@ -44,6 +44,22 @@ pub struct Standing {
     pub second: i64,
 }
 
+impl Standing {
+    ghost use Rattle.std.specs.Prelude.{pos};
+    ghost use Rattle.rules.specs.Refusal.{number_of};
+
+    pub fn refused(refusal: Refusal) -> Standing
+        ensures { result ≡ record { number = number_of refusal; limit = pos 0; first = pos 0; second = pos 0 } }
+    {
+        Standing {
+            number: refusal.number(),
+            limit: 0,
+            first: 0,
+            second: 0,
+        }
+    }
+}
+
 // An account's figures before its positions. Kind 0 is a broker F, 1 a liquidity provider L.
 #[repr(C)]
 #[derive(Clone, Copy)]

@@ -12,9 +12,8 @@ use Rattle.contracts.specs.Says.{World, Permits, means, permitted}
 use Rattle.whole.specs.Number.{min_z, max_z, takes_away, floor_div}
 use Rattle.whole.specs.Tests.{clash}
 use Rattle.rules.specs.declared.Account.{Account}
-use Rattle.rules.specs.declared.Taken.{Taken}
 use Rattle.rules.specs.Account.{account_ok, lg_value, deposit_of, required_of, excess_one, excess_two, limit_of}
-use Rattle.rules.specs.AccountCalls.{reply_of, deposited, withdrawn, teller_deposit, teller_withdrawal}
+use Rattle.rules.specs.AccountCalls.{Taken, reply_of, deposited, withdrawn, teller_deposit, teller_withdrawal}
 use Rattle.rules.specs.declared.Reply.{Reply}
 use Rattle.rules.specs.declared.Standing.{Standing}
 use Rattle.places.specs.ByAccount.{by_account}
