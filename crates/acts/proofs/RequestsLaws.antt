@@ -3,10 +3,9 @@
 use Rattle.std.specs.Prelude.{◌≡◌, refl, List, [], ◌∷◌, Bool, true, false, cond, ℕ, ◌≤◌, eqb, ℤ}
 use Rattle.std.proofs.Common.{sym, ap, ◌∙◌, arith}
 use Rattle.rules.specs.Account.{account_ok}
-use Rattle.rules.specs.AccountCalls.{deposited, withdrawn, guaranteed}
+use Rattle.rules.specs.AccountCalls.{Taken, deposited, withdrawn, guaranteed}
 use Rattle.rules.specs.AccountCallsLaws.{deposited-keeps, deposited-changes, withdrawn-keeps, withdrawn-changes, guaranteed-keeps, guaranteed-changes}
 use Rattle.rules.specs.declared.Account.{Account}
-use Rattle.rules.specs.declared.Taken.{Taken}
 use Rattle.places.specs.Place.{Put, acct, ◌≔◌}
 use Rattle.places.specs.PlaceLaws.{Each}
 use Rattle.acts.specs.Requests.{when_taken, deposit_act, withdraw_act, guarantee_act, question_act}

@@ -1,19 +1,23 @@
 -- How the functions behind the gate come by what their contracts say: a question puts nothing; a call on a record is its reply and its puts.
 -- Assumes nothing.
-use Rattle.std.specs.Prelude.{◌≡◌, refl, Bool, true, false, ◌||◌, List, ℤ, nat_abs, ℕ}
-use Rattle.std.proofs.Common.{ap, ◌∙◌, arith, eq-eqb, ne_eqb}
+use Rattle.std.specs.Prelude.{◌≡◌, refl, Bool, true, false, cond, ◌||◌, List, ℤ, nat_abs, ℕ, ◌<◌, Option, Some, None, Result, Ok, Err, IsErr, IsErrAnd}
+use Rattle.std.proofs.Common.{sym, ap, ◌∙◌, arith, ne_eqb}
+use Rattle.std.proofs.lemmas.Option.{none-some, same_Some}
 use Rattle.whole.specs.Number.{is, is_one_of, unless}
-use Rattle.whole.specs.Tests.{in-range}
+use Rattle.whole.specs.Tests.{in-range, is-one-of}
 use Rattle.acts.specs.Trade.{one_of_each}
 use Rattle.rules.specs.declared.Standing.{Standing}
 use Rattle.places.specs.declared.Shape.{Shape}
 use Rattle.places.specs.Place.{Layout, Put, get, puts}
 use Rattle.places.specs.Act.{Act, finish}
 use Rattle.soundness.specs.Sound.{account_at}
-use Rattle.soundness.specs.Perform.{refuse_question}
-use Rattle.rules.specs.AccountCalls.{reply_of}
+use Rattle.soundness.specs.Perform.{refuse, refuse_question}
+use Rattle.rules.specs.AccountCalls.{Taken, taken, outcome}
+use Rattle.rules.specs.Refusal.{number_of, answer_of}
+use Rattle.rules.specs.declared.refusal.Refusal.{Refusal}
+use Rattle.rules.specs.declared.refusal.Refusal.TheVariants.{Unsound, Lists, NoSuchAccount, NoSuchProduct, Amount, WrongKind, WrongPhase, OutOfRange, PositionTooLarge, GrossTooLarge, AboveLimit, AccountTooLarge, HouseTooLarge}
+use Rattle.rules.specs.declared.Accepted.{Accepted}
 use Rattle.rules.specs.declared.Reply.{Reply}
-use Rattle.rules.specs.declared.Taken.{Taken}
 use Rattle.acts.specs.Requests.{at_account, when_taken, question_act, question_rule}
 use Rattle.rules.specs.declared.Account.{Account}
 
@@ -28,21 +32,74 @@ question-finish L s W a = go (is_one_of s.n a)
     go true = refl
     go false = refl
 
--- a call on a record that was taken, and one that was not
-module _ (L : Layout) (s : Shape) (W : List ℤ) (t : Taken) (us : List Put) (r : Reply) (e : r ≡ reply_of t) where
-  pub taken_as : t.number ≡ 0 → (X : List ℤ) → X ≡ puts L s W us → ◌≡◌ {A = Reply × List ℤ} (r, X) (finish L s W (when_taken t us))
-  taken_as z X q = (λ i. (e i, q i)) ∙ rw (eq-eqb t.number 0 z) refl
+-- ---- a request that names an account
 
-  pub not-taken_as : (t.number ≡ 0 → ⊥) → ◌≡◌ {A = Reply × List ℤ} (r, W) (finish L s W (when_taken t us))
-  not-taken_as z = (λ i. (e i, W)) ∙ rw (ne_eqb t.number 0 z) refl
+-- z names a, one of n
+pub record Named (n : ℕ) (z : ℤ) (a : ℕ) : Type 0 where
+  pub yes : is_one_of n z ≡ true
+  pub same : a ≡ nat_abs z
+  pub below : a < n
 
--- a request that names the account k of the ledger, and one that names none
-module _ {A : Type 0} (L : Layout) (s : Shape) (W : List ℤ) (nay : Act A) (a : ℤ) (f : ℕ → Account → Act A) where
-  pub at-account : (k : ℕ) → k ≡ nat_abs a → is_one_of s.n a ≡ true → finish L s W (f k (account_at (get L s W) k)) ≡ finish L s W (at_account nay a f s (get L s W))
-  at-account k e t = rw t (ap (λ z. finish L s W (f z (account_at (get L s W) z))) e)
+index-given : (t : Bool) (k a : ℕ) → cond t (Some k) None ≡ Some a → (t ≡ true) × (a ≡ k)
+index-given true k a e = (refl, sym (same_Some k a e))
+index-given false k a e = absurd (none-some a e)
 
-  pub no-account : is_one_of s.n a ≡ false → at_account nay a f s (get L s W) ≡ nay
-  no-account t = rw t
+-- what was found is named; w is the word that holds z
+pub named : (n : ℕ) (z w : ℤ) (a : ℕ) {o : Option ℕ} → w ≡ z → o ≡ cond (is_one_of n w) (Some (nat_abs w)) None → o ≡ Some a → Named n z a
+named n z w a q e h =
+    let g = index-given (is_one_of n w) (nat_abs w) a (sym e ∙ h) in
+    let y : is_one_of n z ≡ true = ap (is_one_of n) (sym q) ∙ g.0 in let m : a ≡ nat_abs z = g.1 ∙ ap nat_abs q in
+    record { yes = y; same = m; below = omega (arith, (is-one-of n z y).high) }
+
+none-given : (t : Bool) (k : ℕ) → cond t (Some k) None ≡ None → t ≡ false
+none-given true k e = absurd (none-some k (sym e))
+none-given false k e = refl
+
+-- where nothing was found, none of n is named
+pub unnamed : (n : ℕ) (z w : ℤ) {o : Option ℕ} → w ≡ z → o ≡ cond (is_one_of n w) (Some (nat_abs w)) None → o ≡ None → is_one_of n z ≡ false
+unnamed n z w q e h = ap (is_one_of n) (sym q) ∙ none-given (is_one_of n w) (nat_abs w) (sym e ∙ h)
+
+-- every refusal has a number
+number-some : (r : Refusal) → number_of r ≡ 0 → ⊥
+number-some Unsound e = absurd (omega arith)
+number-some Lists e = absurd (omega arith)
+number-some NoSuchAccount e = absurd (omega arith)
+number-some NoSuchProduct e = absurd (omega arith)
+number-some Amount e = absurd (omega arith)
+number-some WrongKind e = absurd (omega arith)
+number-some WrongPhase e = absurd (omega arith)
+number-some OutOfRange e = absurd (omega arith)
+number-some PositionTooLarge e = absurd (omega arith)
+number-some GrossTooLarge e = absurd (omega arith)
+number-some (AboveLimit limit) e = absurd (omega arith)
+number-some (AccountTooLarge account) e = absurd (omega arith)
+number-some HouseTooLarge e = absurd (omega arith)
+
+-- a call by `rule` on the record of the account that z names, which puts `put`
+module _ (L : Layout) (s : Shape) (W : List ℤ) (rule : Account → Taken) (put : ℕ → Taken → List Put) (z : ℤ) (a : ℕ) (n : Named s.n z a)
+    (account : Account) (is : account ≡ account_at (get L s W) a) (o : Result Accepted Refusal) (e : outcome account o ≡ rule account) where
+  abbrev act : ℕ → Account → Act Reply
+  act k whose = when_taken (rule whose) (put k (rule whose))
+
+  of_account : finish L s W (act a account) ≡ finish L s W (at_account (refuse 3) z act s (get L s W))
+  of_account = ap (λ whose. finish L s W (act a whose)) is ∙ rw n.yes (ap (λ k. finish L s W (act k (account_at (get L s W) k))) n.same)
+
+  -- refused: the words stay
+  pub refusal : (r : Refusal) → o ≡ Err r → ◌≡◌ {A = Reply × List ℤ} (answer_of (Err r), W) (finish L s W (at_account (refuse 3) z act s (get L s W)))
+  refusal r h =
+      let t = ap (outcome account) (sym h) ∙ e in
+      let f : ◌≡◌ {A = Reply × List ℤ} (answer_of (Err r), W) (finish L s W (when_taken (outcome account (Err r)) (put a (outcome account (Err r))))) = rw (ne_eqb (number_of r) 0 (number-some r)) refl in
+      f ∙ ap (λ k. finish L s W (when_taken k (put a k))) t ∙ of_account
+
+  -- accepted: its figure, and what it puts
+  pub acceptance : (k : Accepted) → o ≡ Ok k → (X : List ℤ) → X ≡ puts L s W (put a (taken k.figure k.account))
+      → ◌≡◌ {A = Reply × List ℤ} (answer_of (Ok k.figure), X) (finish L s W (at_account (refuse 3) z act s (get L s W)))
+  acceptance k h X x = let t = ap (outcome account) (sym h) ∙ e in (λ i. (answer_of (Ok k.figure), x i)) ∙ ap (λ y. finish L s W (when_taken y (put a y))) t ∙ of_account
+
+-- the error that `?` hands on
+pub handed_on : {o : Result ℤ Refusal} {r : Refusal} → IsErr o → IsErrAnd o (λ x. x ≡ r) → o ≡ Err r
+handed_on {o = Ok x} h e = absurd e
+handed_on {o = Err x} h e = ap Err e
 
 -- one F and one L, by the buyer's kind
 pub an_f : (k l : ℤ) → is 0 k ≡ true → one_of_each k l ≡ is 1 l

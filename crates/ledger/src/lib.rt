@@ -9,7 +9,7 @@ ghost use Rattle.acts.specs.Requests as Q;
 ghost use Rattle.acts.specs.Trade as T;
 ghost use Rattle.acts.specs.Run as R;
 
-use rules::{Reply, Standing};
+use rules::{Refusal, Reply, Standing};
 
 pub mod requests;
 pub mod settlement;
@@ -19,43 +19,39 @@ pub mod trading;
 pub fn deposit(words: &mut [i64], a: i64, x: i64) -> Reply
     ensures { (result, words.new) ≡ perform by_account words.old (Q.deposit_rule a x) }
 {
-    if !soundness::sound(words) {
-        return soundness::refused(1);
-    }
-    let s = soundness::shape_of(words);
-    requests::deposit_in(words, s, a, x)
+    let Some(s) = soundness::sound_shape(words) else {
+        return Reply::from(Err(Refusal::Unsound));
+    };
+    Reply::from(requests::deposit_in(words, s, a, x))
 }
 
 // A withdrawal of x from the account a: 1 3 5 11. The figure is the new cash, or with 11 the limit.
 pub fn withdraw(words: &mut [i64], a: i64, x: i64) -> Reply
     ensures { (result, words.new) ≡ perform by_account words.old (Q.withdraw_rule a x) }
 {
-    if !soundness::sound(words) {
-        return soundness::refused(1);
-    }
-    let s = soundness::shape_of(words);
-    requests::withdraw_in(words, s, a, x)
+    let Some(s) = soundness::sound_shape(words) else {
+        return Reply::from(Err(Refusal::Unsound));
+    };
+    Reply::from(requests::withdraw_in(words, s, a, x))
 }
 
 // A new guarantee and cap for the account a: 1 3 5 6. The figure is the new LG value.
 pub fn guarantee(words: &mut [i64], a: i64, guarantee: i64, cap: i64) -> Reply
     ensures { (result, words.new) ≡ perform by_account words.old (Q.guarantee_rule a guarantee cap) }
 {
-    if !soundness::sound(words) {
-        return soundness::refused(1);
-    }
-    let s = soundness::shape_of(words);
-    requests::guarantee_in(words, s, a, guarantee, cap)
+    let Some(s) = soundness::sound_shape(words) else {
+        return Reply::from(Err(Refusal::Unsound));
+    };
+    Reply::from(requests::guarantee_in(words, s, a, guarantee, cap))
 }
 
 // The limit and both shortfalls of the account a: 1 3.
 pub fn question(words: &[i64], a: i64) -> Standing
     ensures { (result, words.now) ≡ ask by_account words.now (Q.question_rule a) }
 {
-    if !soundness::sound(words) {
-        return requests::no_standing(1);
-    }
-    let s = soundness::shape_of(words);
+    let Some(s) = soundness::sound_shape(words) else {
+        return Standing::refused(Refusal::Unsound);
+    };
     requests::question_in(words, s, a)
 }
 
@@ -70,31 +66,28 @@ pub fn trade(
 ) -> Reply
     ensures { (result, words.new) ≡ perform by_account words.old (T.trade_rule buyer seller product lots price) }
 {
-    if !soundness::sound(words) {
-        return soundness::refused(1);
-    }
-    let s = soundness::shape_of(words);
-    trading::trade_in(words, s, buyer, seller, product, lots, price)
+    let Some(s) = soundness::sound_shape(words) else {
+        return Reply::from(Err(Refusal::Unsound));
+    };
+    Reply::from(trading::trade_in(words, s, buyer, seller, product, lots, price))
 }
 
 // The run begins: 1 7 13.
 pub fn begin(words: &mut [i64]) -> Reply
     ensures { (result, words.new) ≡ perform by_account words.old R.begin_rule }
 {
-    if !soundness::sound(words) {
-        return soundness::refused(1);
-    }
-    let s = soundness::shape_of(words);
-    settlement::begin_in(words, s)
+    let Some(s) = soundness::sound_shape(words) else {
+        return Reply::from(Err(Refusal::Unsound));
+    };
+    Reply::from(settlement::begin_in(words, s))
 }
 
 // The next account of the run has its transfer: 1 7. The figure is the account stepped.
 pub fn step(words: &mut [i64]) -> Reply
     ensures { (result, words.new) ≡ perform by_account words.old R.step_rule }
 {
-    if !soundness::sound(words) {
-        return soundness::refused(1);
-    }
-    let s = soundness::shape_of(words);
-    settlement::step_in(words, s)
+    let Some(s) = soundness::sound_shape(words) else {
+        return Reply::from(Err(Refusal::Unsound));
+    };
+    Reply::from(settlement::step_in(words, s))
 }

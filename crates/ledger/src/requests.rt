@@ -1,148 +1,89 @@
 // The requests that name one account, behind the gate: the words are a sound ledger of the shape s. The rules on the account's record are
 // crate `rules`'; here the record is read off the words, and what changed is put back.
 ghost use Rattle.std.specs.Prelude.{◌≡◌, [], ◌∷◌, ◌<◌};
-ghost use Rattle.places.specs.Place.{get, ◌≔◌, cash, guarantee, cap};
+ghost use Rattle.rules.specs.Refusal.{answer_of};
+ghost use Rattle.places.specs.Place.{get, puts, ◌≔◌, cash, guarantee, cap};
 ghost use Rattle.places.specs.PlaceLaws.{Sized};
 ghost use Rattle.places.specs.ByAccount.{by_account};
 ghost use Rattle.places.specs.Act.{finish};
-ghost use Rattle.soundness.specs.Sound.{account_at};
 ghost use Rattle.soundness.specs.SoundLaws.{Ledger};
-ghost use Rattle.soundness.specs.Perform.{refuse_question};
 ghost use Rattle.acts.specs.Requests as Q;
 
 use places::Shape;
-use rules::{Reply, Standing, Taken};
+use rules::{Accepted, Refusal, Standing, calls};
 
-// A refused question: its three figures are 0.
-pub fn no_standing(number: u64) -> Standing
-    ensures { result ≡ (refuse_question number).answer }
-{
-    Standing {
-        number: number,
-        limit: 0,
-        first: 0,
-        second: 0,
-    }
-}
-
-// The reply of a call on the account a's record; where it was taken, its cash is put back.
-fn put_cash(words: &mut [i64], s: Shape, a: usize, taken: Taken) -> Reply
+// The cash of the account a after a call that is accepted; its figure.
+fn put_cash(words: &mut [i64], s: Shape, a: usize, accepted: Accepted) -> i64
     requires sized { Sized s words.old }
     requires a_lt_n { a < s.n }
-    ensures { (result, words.new) ≡ finish by_account s words.old (Q.when_taken taken ((cash a ≔ taken.account.cash) ∷ [])) }
+    ensures figure { result ≡ accepted.figure }
+    ensures words { words.new ≡ puts by_account s words.old ((cash a ≔ accepted.account.cash) ∷ []) }
 {
-    let number = taken.number;
-    let figure = taken.figure;
-    if number == 0 {
-        let account = taken.account;
-        let cash = account.cash;
-        places::put_acct(words, s, a, places::CASH, cash);
-        return Reply {
-            number: number,
-            figure: figure,
-        };
-    }
-    Reply {
-        number: number,
-        figure: figure,
-    }
+    places::put_acct(words, s, a, places::CASH, accepted.account.cash);
+    accepted.figure
 }
 
-// The same of a call that changes guarantee and cap.
-fn put_guarantee(words: &mut [i64], s: Shape, a: usize, taken: Taken) -> Reply
+// The guarantee and the cap of the account a after a call that is accepted; its figure.
+fn put_guarantee(words: &mut [i64], s: Shape, a: usize, accepted: Accepted) -> i64
     requires sized { Sized s words.old }
     requires a_lt_n { a < s.n }
-    ensures { (result, words.new) ≡ finish by_account s words.old (Q.when_taken taken ((guarantee a ≔ taken.account.guarantee) ∷ (cap a ≔ taken.account.cap) ∷ [])) }
+    ensures figure { result ≡ accepted.figure }
+    ensures words { words.new ≡ puts by_account s words.old ((guarantee a ≔ accepted.account.guarantee) ∷ (cap a ≔ accepted.account.cap) ∷ []) }
 {
-    let refusal = taken.number;
-    let figure = taken.figure;
-    if refusal == 0 {
-        let account = taken.account;
-        let guarantee = account.guarantee;
-        let cap = account.cap;
-        places::put_acct(words, s, a, places::GUARANTEE, guarantee);
-        places::put_acct(words, s, a, places::CAP, cap);
-        return Reply {
-            number: refusal,
-            figure: figure,
-        };
-    }
-    Reply {
-        number: refusal,
-        figure: figure,
-    }
+    places::put_acct(words, s, a, places::GUARANTEE, accepted.account.guarantee);
+    places::put_acct(words, s, a, places::CAP, accepted.account.cap);
+    accepted.figure
 }
 
-fn deposit_at(words: &mut [i64], s: Shape, a: usize, x: i64) -> Reply
-    requires ledger { Ledger by_account s words.old }
-    requires a_lt_n { a < s.n }
-    ensures { (result, words.new) ≡ finish by_account s words.old (Q.deposit_act x a (account_at (get by_account s words.old) a)) }
-{
-    let account = soundness::account_at(words, s, a);
-    let taken = rules::calls::deposited(account, x);
-    put_cash(words, s, a, taken)
-}
-
-fn withdraw_at(words: &mut [i64], s: Shape, a: usize, x: i64) -> Reply
-    requires ledger { Ledger by_account s words.old }
-    requires a_lt_n { a < s.n }
-    ensures { (result, words.new) ≡ finish by_account s words.old (Q.withdraw_act x a (account_at (get by_account s words.old) a)) }
-{
-    let account = soundness::account_at(words, s, a);
-    let taken = rules::calls::withdrawn(account, x);
-    put_cash(words, s, a, taken)
-}
-
-fn guarantee_at(words: &mut [i64], s: Shape, a: usize, guarantee: i64, cap: i64) -> Reply
-    requires ledger { Ledger by_account s words.old }
-    requires a_lt_n { a < s.n }
-    ensures { (result, words.new) ≡ finish by_account s words.old (Q.guarantee_act guarantee cap a (account_at (get by_account s words.old) a)) }
-{
-    let account = soundness::account_at(words, s, a);
-    let taken = rules::calls::guaranteed(account, guarantee, cap);
-    put_guarantee(words, s, a, taken)
-}
-
-pub fn deposit_in(words: &mut [i64], s: Shape, a: i64, x: i64) -> Reply
+// A deposit of x yen to the account a: 3, then the rule's own.
+pub fn deposit_in(words: &mut [i64], s: Shape, a: i64, x: i64) -> Result<i64, Refusal>
     requires { Ledger by_account s words.old }
-    ensures { (result, words.new) ≡ finish by_account s words.old (Q.deposit_rule a x s (get by_account s words.old)) }
+    ensures { (answer_of result, words.new) ≡ finish by_account s words.old (Q.deposit_rule a x s (get by_account s words.old)) }
 {
-    let n = s.n;
-    if !whole::is_one_of(a, n) {
-        return soundness::refused(3);
-    }
-    deposit_at(words, s, whole::nat_abs(a) as usize, x)
+    let Some(a) = whole::index_of(a, s.n) else {
+        return Err(Refusal::NoSuchAccount);
+    };
+    let accepted = calls::deposited(soundness::account_at(words, s, a), x)?;
+    Ok(put_cash(words, s, a, accepted))
 }
 
-pub fn withdraw_in(words: &mut [i64], s: Shape, a: i64, x: i64) -> Reply
+// A withdrawal of x yen from the account a: 3, then the rule's own.
+pub fn withdraw_in(words: &mut [i64], s: Shape, a: i64, x: i64) -> Result<i64, Refusal>
     requires { Ledger by_account s words.old }
-    ensures { (result, words.new) ≡ finish by_account s words.old (Q.withdraw_rule a x s (get by_account s words.old)) }
+    ensures { (answer_of result, words.new) ≡ finish by_account s words.old (Q.withdraw_rule a x s (get by_account s words.old)) }
 {
-    let n = s.n;
-    if !whole::is_one_of(a, n) {
-        return soundness::refused(3);
-    }
-    withdraw_at(words, s, whole::nat_abs(a) as usize, x)
+    let Some(a) = whole::index_of(a, s.n) else {
+        return Err(Refusal::NoSuchAccount);
+    };
+    let accepted = calls::withdrawn(soundness::account_at(words, s, a), x)?;
+    Ok(put_cash(words, s, a, accepted))
 }
 
-pub fn guarantee_in(words: &mut [i64], s: Shape, a: i64, guarantee: i64, cap: i64) -> Reply
+// The guarantee and the cap of the account a: 3, then the rule's own.
+pub fn guarantee_in(
+    words: &mut [i64],
+    s: Shape,
+    a: i64,
+    guarantee: i64,
+    cap: i64,
+) -> Result<i64, Refusal>
     requires { Ledger by_account s words.old }
-    ensures { (result, words.new) ≡ finish by_account s words.old (Q.guarantee_rule a guarantee cap s (get by_account s words.old)) }
+    ensures { (answer_of result, words.new) ≡ finish by_account s words.old (Q.guarantee_rule a guarantee cap s (get by_account s words.old)) }
 {
-    let n = s.n;
-    if !whole::is_one_of(a, n) {
-        return soundness::refused(3);
-    }
-    guarantee_at(words, s, whole::nat_abs(a) as usize, guarantee, cap)
+    let Some(a) = whole::index_of(a, s.n) else {
+        return Err(Refusal::NoSuchAccount);
+    };
+    let accepted = calls::guaranteed(soundness::account_at(words, s, a), guarantee, cap)?;
+    Ok(put_guarantee(words, s, a, accepted))
 }
 
+// The limit and the shortfalls of the account a: 3.
 pub fn question_in(words: &[i64], s: Shape, a: i64) -> Standing
     requires { Ledger by_account s words.now }
     ensures { result ≡ (Q.question_rule a s (get by_account s words.now)).answer }
 {
-    let n = s.n;
-    if !whole::is_one_of(a, n) {
-        return no_standing(3);
-    }
-    rules::calls::standing_of(soundness::account_at(words, s, whole::nat_abs(a) as usize))
+    let Some(a) = whole::index_of(a, s.n) else {
+        return Standing::refused(Refusal::NoSuchAccount);
+    };
+    calls::standing_of(soundness::account_at(words, s, a))
 }

@@ -1,6 +1,7 @@
 // A trade, behind the gate: the words are a sound ledger of the shape s (01, "The day").
 ghost use Rattle.std.specs.Prelude.{◌≡◌, true, ◌&&◌, [], ◌∷◌, ◌<◌, ◌≤◌, ◌^◌, pos, nat_abs, ◌+ℤ◌};
 ghost use Rattle.whole.specs.Number.{is_one_of, between, unless};
+ghost use Rattle.rules.specs.Refusal.{answer_of};
 ghost use Rattle.rules.specs.Sizes.{most_price, most_lots};
 ghost use Rattle.places.specs.Place.{get, puts, ◌≔◌, kind};
 ghost use Rattle.places.specs.Place as L;
@@ -12,7 +13,7 @@ ghost use Rattle.soundness.specs.Perform.{refuse};
 ghost use Rattle.acts.specs.Trade as T;
 
 use places::Shape;
-use rules::Reply;
+use rules::Refusal;
 
 // A position in one product.
 #[derive(Clone, Copy)]
@@ -29,11 +30,9 @@ fn position_after(words: &[i64], s: Shape, a: usize, j: usize, lots: i64, book: 
     requires lots_bound_2 { nat_abs book ≤ 10 ^ 15 }
     ensures { (result.lots ≡ get by_account s words.now (L.lots a j) +ℤ lots) × (result.book ≡ get by_account s words.now (L.book a j) +ℤ book) }
 {
-    let held = places::held_word(words, s, a, j, places::LOTS);
-    let booked = places::held_word(words, s, a, j, places::BOOK);
     Position {
-        lots: held + lots,
-        book: booked + book,
+        lots: places::held_word(words, s, a, j, places::LOTS) + lots,
+        book: places::held_word(words, s, a, j, places::BOOK) + book,
     }
 }
 
@@ -44,9 +43,7 @@ fn position_ok(words: &[i64], s: Shape, j: usize, position: Position) -> bool
     ensures { result ≡ T.position_in (get by_account s words.now) j position.lots position.book }
 {
     let most = rules::products::most_book(places::prod_word(words, s, j, places::PRODUCT_KIND));
-    let lots = position.lots;
-    let book = position.book;
-    soundness::positions::held_in(lots, book, most)
+    soundness::positions::held_in(position.lots, position.book, most)
 }
 
 fn put_position(words: &mut [i64], s: Shape, a: usize, j: usize, position: Position)
@@ -54,10 +51,8 @@ fn put_position(words: &mut [i64], s: Shape, a: usize, j: usize, position: Posit
     requires a_lt_n { (a < s.n) × (j < s.p) }
     ensures { words.new ≡ puts by_account s words.old ((L.lots a j ≔ position.lots) ∷ (L.book a j ≔ position.book) ∷ []) }
 {
-    let lots = position.lots;
-    let book = position.book;
-    places::put_held(words, s, a, j, places::LOTS, lots);
-    places::put_held(words, s, a, j, places::BOOK, book);
+    places::put_held(words, s, a, j, places::LOTS, position.lots);
+    places::put_held(words, s, a, j, places::BOOK, position.book);
 }
 
 // Both positions after the trade are worked out and tested before either is written.
@@ -69,28 +64,25 @@ fn trade_at(
     j: usize,
     lots: i64,
     price: i64,
-) -> Reply
+) -> Result<i64, Refusal>
     requires ledger { Ledger by_account s words.old }
     requires buyer_lt_n { (buyer < s.n) × (seller < s.n) × (j < s.p) }
     requires lots_bound_1 { nat_abs lots ≤ most_lots }
     requires lots_bound_2 { nat_abs price ≤ 5000000 }
-    ensures { (result, words.new) ≡ finish by_account s words.old (T.traded buyer seller j lots price (get by_account s words.old)) }
+    ensures { (answer_of result, words.new) ≡ finish by_account s words.old (T.traded buyer seller j lots price (get by_account s words.old)) }
 {
     let value = lots * price;
     let bought = position_after(words, s, buyer, j, lots, value);
     if !position_ok(words, s, j, bought) {
-        return soundness::refused(9);
+        return Err(Refusal::PositionTooLarge);
     }
     let sold = position_after(words, s, seller, j, 0 - lots, 0 - value);
     if !position_ok(words, s, j, sold) {
-        return soundness::refused(9);
+        return Err(Refusal::PositionTooLarge);
     }
     put_position(words, s, buyer, j, bought);
     put_position(words, s, seller, j, sold);
-    Reply {
-        number: 0,
-        figure: 0,
-    }
+    Ok(0)
 }
 
 // Whether the accounts are one F and one L.
@@ -101,13 +93,7 @@ fn one_of_each(words: &[i64], s: Shape, buyer: usize, seller: usize) -> bool
 {
     let k = places::acct_word(words, s, buyer, places::KIND);
     let l = places::acct_word(words, s, seller, places::KIND);
-    if whole::between(k, 0, 0) {
-        return whole::between(l, 1, 1);
-    }
-    if !whole::between(k, 1, 1) {
-        return false;
-    }
-    whole::between(l, 0, 0)
+    k == 0 && l == 1 || k == 1 && l == 0
 }
 
 // Whether lots and price of a trade are in range, the price by the product's kind.
@@ -116,14 +102,9 @@ fn terms_ok(words: &[i64], s: Shape, j: usize, lots: i64, price: i64) -> bool
     requires j_lt_p { j < s.p }
     ensures { result ≡ T.terms_ok (get by_account s words.now) j lots price }
 {
-    if !whole::between(lots, 1, rules::sizes::MOST_LOTS) {
-        return false;
-    }
-    whole::between(
-        price,
-        1,
-        rules::products::most_price(places::prod_word(words, s, j, places::PRODUCT_KIND)),
-    )
+    let kind = places::prod_word(words, s, j, places::PRODUCT_KIND);
+    whole::between(lots, 1, rules::sizes::MOST_LOTS)
+        && whole::between(price, 1, rules::products::most_price(kind))
 }
 
 // The trade between two accounts of the ledger, in one of its products.
@@ -135,30 +116,21 @@ fn trade_between(
     j: usize,
     lots: i64,
     price: i64,
-) -> Reply
+) -> Result<i64, Refusal>
     requires ledger { Ledger by_account s words.old }
     requires buyer_lt_n { (buyer < s.n) × (seller < s.n) × (j < s.p) }
-    ensures { (result, words.new) ≡ finish by_account s words.old (T.trade_between buyer seller j lots price (get by_account s words.old)) }
+    ensures { (answer_of result, words.new) ≡ finish by_account s words.old (T.trade_between buyer seller j lots price (get by_account s words.old)) }
 {
     if !one_of_each(words, s, buyer, seller) {
-        return soundness::refused(6);
+        return Err(Refusal::WrongKind);
     }
     if !terms_ok(words, s, j, lots, price) {
-        return soundness::refused(8);
+        return Err(Refusal::OutOfRange);
     }
     trade_at(words, s, buyer, seller, j, lots, price)
 }
 
-// Whether both figures name accounts of the ledger.
-fn both_accounts(buyer: i64, seller: i64, n: usize) -> bool
-    ensures { result ≡ (is_one_of n buyer && is_one_of n seller) }
-{
-    if !whole::is_one_of(buyer, n) {
-        return false;
-    }
-    whole::is_one_of(seller, n)
-}
-
+// A trade: 3, 4, then 6, 8, 9.
 pub fn trade_in(
     words: &mut [i64],
     s: Shape,
@@ -167,25 +139,18 @@ pub fn trade_in(
     product: i64,
     lots: i64,
     price: i64,
-) -> Reply
+) -> Result<i64, Refusal>
     requires { Ledger by_account s words.old }
-    ensures { (result, words.new) ≡ finish by_account s words.old (T.trade_rule buyer seller product lots price s (get by_account s words.old)) }
+    ensures { (answer_of result, words.new) ≡ finish by_account s words.old (T.trade_rule buyer seller product lots price s (get by_account s words.old)) }
 {
-    let n = s.n;
-    let p = s.p;
-    if !both_accounts(buyer, seller, n) {
-        return soundness::refused(3);
-    }
-    if !whole::is_one_of(product, p) {
-        return soundness::refused(4);
-    }
-    trade_between(
-        words,
-        s,
-        whole::nat_abs(buyer) as usize,
-        whole::nat_abs(seller) as usize,
-        whole::nat_abs(product) as usize,
-        lots,
-        price,
-    )
+    let Some(buyer) = whole::index_of(buyer, s.n) else {
+        return Err(Refusal::NoSuchAccount);
+    };
+    let Some(seller) = whole::index_of(seller, s.n) else {
+        return Err(Refusal::NoSuchAccount);
+    };
+    let Some(j) = whole::index_of(product, s.p) else {
+        return Err(Refusal::NoSuchProduct);
+    };
+    trade_between(words, s, buyer, seller, j, lots, price)
 }

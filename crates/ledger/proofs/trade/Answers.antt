@@ -1,26 +1,17 @@
--- `trade` meets its contract: the gate, then the rule on a ledger that is sound. Assumes nothing.
-use mathlib.Core.Path.{refl}
+-- The gate, then the rule on a ledger that is sound. Assumes nothing.
+use Rattle.std.proofs.Common.{ap, ◌∙◌, refl}
 use Rattle.whole.specs.Signs.{arg}
 use Rattle.acts.specs.Trade.{trade_rule}
-use Rattle.places.specs.ByAccount.{by_account}
-use Rattle.soundness.specs.SoundLaws.{Ledger}
-use Rattle.soundness.specs.PerformLaws.{gate_shut, gate_two, gate_ledger, gate_open}
-use Rattle.std.proofs.Common.{ap, not}
-use Rattle.ledger.proofs.trade.Goals.{After-shape_of-s}
+use Rattle.soundness.specs.PerformLaws.{shut, opened, gate_open}
 use Rattle.ledger.proofs.trade.Goals as goal
 
--- the words are a ledger of the shape that was read
-ledger : (c : After-shape_of-s) → Ledger by_account c.shape_of-s.result c.args.words.now
-ledger c = let d = c in gate_ledger _ d.sound.ensures (ap not d.if-not-sound.false) c.shape_of-s.ensures
-
-pub returns-then-not-sound : goal.returns-then-not-sound
-returns-then-not-sound c = gate_shut _ c.sound.ensures _ _ (ap not c.if-not-sound.true) refl c.refused.ensures
-
-pub shape_of-s-requires : goal.shape_of-s-requires
-shape_of-s-requires c = gate_two _ c.sound.ensures (ap not c.if-not-sound.false)
+pub returns-in_default : goal.returns-in_default
+returns-in_default c = shut _ c.sound_shape.ensures _ _ c.in_default.is refl c.from.ensures
 
 pub trade_in-requires : goal.trade_in-requires
-trade_in-requires c = ledger (goal.at.trade_in-requires c).After-shape_of-s
+trade_in-requires c = opened _ c.sound_shape.ensures c.in-Some.is
 
 pub returns : goal.returns
-returns c = let k = c in let s = k in gate_open _ _ _ _ _ (λ i. trade_rule (arg s.ranges.buyer i) (arg s.ranges.seller i) (arg s.ranges.product i) (arg s.ranges.lots i) (arg s.ranges.price i)) (ledger (goal.at.returns k).After-shape_of-s) c.trade_in.ensures
+returns c =
+    ap (λ r. (r, c.trade_in.new.words)) c.from-2.ensures
+    ∙ gate_open _ _ _ _ _ (λ i. trade_rule (arg c.ranges.buyer i) (arg c.ranges.seller i) (arg c.ranges.product i) (arg c.ranges.lots i) (arg c.ranges.price i)) (opened _ c.sound_shape.ensures c.in-Some.is) c.trade_in.ensures

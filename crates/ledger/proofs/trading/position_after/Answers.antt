@@ -14,7 +14,7 @@ use Rattle.rules.specs.ProductLaws.{book-most}
 use Rattle.places.specs.Place.{View, get, product_kind, lots, book}
 use Rattle.places.specs.ByAccount.{by_account}
 use Rattle.soundness.specs.SoundLaws.{ledger_facts}
-use Rattle.ledger.proofs.trading.position_after.Goals.{After-held_word-booked, Start}
+use Rattle.ledger.proofs.trading.position_after.Goals.{Start}
 use Rattle.ledger.proofs.trading.position_after.Goals as goal
 
 module _ (s : Start) where
@@ -38,27 +38,28 @@ module _ (s : Start) where
 sum_fits : (x y : ℤ) → nat_abs x ≤ 10 ^ 15 → nat_abs y ≤ 10 ^ 15 → SFits w64 (x +ℤ y)
 sum_fits x y h i = small (x +ℤ y) (2 ^ 62) (omega (arith, abs_add x y)) (omega arith)
 
-module _ (c : After-held_word-booked) where
-  abbrev at : Start
-  at = c.before.before
+-- a word that was read, and a change
+module _ (r v x y : ℤ) (is : to_z w64 (of_z w64 r) ≡ v) (given : to_z w64 (of_z w64 x) ≡ y) (h : nat_abs v ≤ 10 ^ 15) (i : nat_abs y ≤ 10 ^ 15) where
+  sum_is : to_z w64 (of_z w64 r) +ℤ to_z w64 (of_z w64 x) ≡ v +ℤ y
+  sum_is = ap₂ ◌+ℤ◌ is given
 
-  lots-is : to_z w64 (of_z w64 c.held_word-held.result) +ℤ to_z w64 (of_z w64 at.args.lots) ≡ held at +ℤ at.args.lots
-  lots-is = let w = c.held_word-held in ap₂ ◌+ℤ◌ (came w.result w.type_inv w.ensures) (arg at.ranges.lots)
-
-  book-is : to_z w64 (of_z w64 c.held_word-booked.result) +ℤ to_z w64 (of_z w64 at.args.book) ≡ booked at +ℤ at.args.book
-  book-is = let w = c.held_word-booked in ap₂ ◌+ℤ◌ (came w.result w.type_inv w.ensures) (arg at.ranges.book)
-
-  lots-fits : SFits w64 (to_z w64 (of_z w64 c.held_word-held.result) +ℤ to_z w64 (of_z w64 at.args.lots))
-  lots-fits = rw lots-is (sum_fits (held at) at.args.lots (omega (arith, (position_in at).0)) at.requires.lots_bound_1)
-
-  book-fits : SFits w64 (to_z w64 (of_z w64 c.held_word-booked.result) +ℤ to_z w64 (of_z w64 at.args.book))
-  book-fits = rw book-is (sum_fits (booked at) at.args.book (omega (arith, (position_in at).1)) at.requires.lots_bound_2)
+  fits : SFits w64 (to_z w64 (of_z w64 r) +ℤ to_z w64 (of_z w64 x))
+  fits = rw sum_is (sum_fits v y h i)
 
 pub overflow_add-result : goal.overflow_add-result
-overflow_add-result c = lots-fits c
+overflow_add-result c =
+    let s = (goal.at.overflow_add-result c).Start in let w = c.held_word in
+    fits w.result (held s) c.args.lots c.args.lots (came w.result w.type_inv w.ensures) (arg c.ranges.lots) (omega (arith, (position_in s).0)) c.requires.lots_bound_1
 
 pub overflow_add-result-2 : goal.overflow_add-result-2
-overflow_add-result-2 c = book-fits c
+overflow_add-result-2 c =
+    let s = (goal.at.overflow_add-result-2 c).Start in let w = c.held_word-2 in
+    fits w.result (booked s) c.args.book c.args.book (came w.result w.type_inv w.ensures) (arg c.ranges.book) (omega (arith, (position_in s).1)) c.requires.lots_bound_2
 
 pub returns : goal.returns
-returns c = (arg (lots-fits c) ∙ lots-is c, arg (book-fits c) ∙ book-is c)
+returns c =
+    let s = (goal.at.returns c).Start in let w = c.held_word in let v = c.held_word-2 in
+    let l = came w.result w.type_inv w.ensures in let b = came v.result v.type_inv v.ensures in (
+      arg (fits w.result (held s) c.args.lots c.args.lots l (arg c.ranges.lots) (omega (arith, (position_in s).0)) c.requires.lots_bound_1) ∙ sum_is w.result (held s) c.args.lots c.args.lots l (arg c.ranges.lots) (omega (arith, (position_in s).0)) c.requires.lots_bound_1,
+      arg (fits v.result (booked s) c.args.book c.args.book b (arg c.ranges.book) (omega (arith, (position_in s).1)) c.requires.lots_bound_2) ∙ sum_is v.result (booked s) c.args.book c.args.book b (arg c.ranges.book) (omega (arith, (position_in s).1)) c.requires.lots_bound_2,
+    )

@@ -12,6 +12,7 @@ use Rattle.whole.specs.Reps.{small}
 use Rattle.rules.specs.ProductLaws.{times_in, abs_neg}
 use Rattle.places.specs.Place.{View, get, put, lots, book}
 use Rattle.places.specs.ByAccount.{by_account}
+use Rattle.soundness.specs.Perform.{replies}
 use Rattle.soundness.specs.PerformLaws.{refused_as}
 use Rattle.acts.specs.Trade.{position_in, traded}
 use Rattle.std.proofs.Common.{not}
@@ -117,7 +118,7 @@ position_after-bought-requires c = let s = c in record { ledger = s.requires.led
 pub returns-then-not-position_ok : goal.returns-then-not-position_ok
 returns-then-not-position_ok c =
     let s = c in
-    refused_as by_account s.args.s (W (goal.at.returns-then-not-position_ok s).Start) c.refused.result 9 (traded s.args.buyer s.args.seller s.args.j (q (goal.at.returns-then-not-position_ok s).Start) s.args.price (g (goal.at.returns-then-not-position_ok s).Start)) c.refused.ensures
+    refused_as by_account s.args.s (W (goal.at.returns-then-not-position_ok s).Start) (replies 9 (pos 0)) 9 (traded s.args.buyer s.args.seller s.args.j (q (goal.at.returns-then-not-position_ok s).Start) s.args.price (g (goal.at.returns-then-not-position_ok s).Start)) refl
     (simp (fails (bought-in (goal.at.returns-then-not-position_ok c).After-position_ok) (ap not c.if-not-position_ok.true)))
 
 pub overflow_sub-value : goal.overflow_sub-value
@@ -129,7 +130,7 @@ position_after-sold-requires c = let s = c in record { ledger = s.requires.ledge
 pub returns-then-not-position_ok-2 : goal.returns-then-not-position_ok-2
 returns-then-not-position_ok-2 c =
     let d = c in let s = s₂ (goal.at.returns-then-not-position_ok-2 d).After-position_after-sold in let one = d in
-    refused_as by_account s.args.s (W s) c.refused-then-not-position_ok-2.result 9 (traded s.args.buyer s.args.seller s.args.j (q s) s.args.price (g s)) c.refused-then-not-position_ok-2.ensures
+    refused_as by_account s.args.s (W s) (replies 9 (pos 0)) 9 (traded s.args.buyer s.args.seller s.args.j (q s) s.args.price (g s)) refl
     (simp (holds (bought-in (goal.at.returns-then-not-position_ok-2 one).After-position_ok) (ap not one.if-not-position_ok.false), fails (sold-in (goal.at.returns-then-not-position_ok-2 d).After-position_ok-2) (ap not c.if-not-position_ok-2.true)))
 
 pub returns : goal.returns

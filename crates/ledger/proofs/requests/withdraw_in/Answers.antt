@@ -1,0 +1,33 @@
+-- The account that is named, and the rule on its record. Assumes nothing.
+use Rattle.std.specs.Prelude.{[], ◌∷◌}
+use Rattle.std.proofs.Common.{ap, ◌∙◌, Ok}
+use Rattle.whole.specs.Signs.{arg, came}
+use Rattle.rules.specs.Refusal.{answer_of}
+use Rattle.rules.specs.AccountCalls.{withdrawn}
+use Rattle.places.specs.Place.{◌≔◌, cash}
+use Rattle.places.specs.ByAccount.{by_account}
+use Rattle.soundness.specs.SoundLaws.{ledger_facts}
+use Rattle.ledger.specs.Answers.{named, refusal, acceptance, handed_on}
+use Rattle.ledger.proofs.requests.withdraw_in.Goals as goal
+
+pub withdrawn-requires : goal.withdrawn-requires
+withdrawn-requires c =
+    let n = named c.args.s.n c.args.a _ c.in-Some.a (arg c.ranges.a) c.index_of.ensures c.in-Some.is in
+    rw c.account_at.ensures ((ledger_facts by_account c.args.s c.args.words.now c.requires).account c.in-Some.a n.below)
+
+pub returns-in_err-accepted : goal.returns-in_err-accepted
+returns-in_err-accepted c =
+    let n = named c.args.s.n c.args.a _ c.in-Some.a (arg c.ranges.a) c.index_of.ensures c.in-Some.is in
+    let e = c.withdrawn.ensures ∙ (λ i. withdrawn c.account_at.result (arg c.ranges.x i)) in
+    ap (λ r. (answer_of r, c.args.words.now)) (handed_on c.from_residual.ensures.0 c.from_residual.ensures.1)
+    ∙ refusal by_account c.args.s c.args.words.now (λ whose. withdrawn whose c.args.x) (λ k t. (cash k ≔ t.account.cash) ∷ []) c.args.a c.in-Some.a n c.account_at.result c.account_at.ensures c.withdrawn.result e c.in_err-accepted.field-0.0 c.in_err-accepted.was
+
+pub put_cash-requires-clause-a_lt_n : goal.put_cash-requires-clause-a_lt_n
+put_cash-requires-clause-a_lt_n c = (named c.args.s.n c.args.a _ c.in-Some.a (arg c.ranges.a) c.index_of.ensures c.in-Some.is).below
+
+pub returns : goal.returns
+returns c =
+    let n = named c.args.s.n c.args.a _ c.in-Some.a (arg c.ranges.a) c.index_of.ensures c.in-Some.is in
+    let e = c.withdrawn.ensures ∙ (λ i. withdrawn c.account_at.result (arg c.ranges.x i)) in
+    ap (λ z. (answer_of (Ok z), c.put_cash.new.words)) (came c.put_cash.result c.put_cash.type_inv c.put_cash.ensures.figure)
+    ∙ acceptance by_account c.args.s c.args.words.now (λ whose. withdrawn whose c.args.x) (λ k t. (cash k ≔ t.account.cash) ∷ []) c.args.a c.in-Some.a n c.account_at.result c.account_at.ensures c.withdrawn.result e c.in_ok-accepted.accepted c.in_ok-accepted.was c.put_cash.new.words c.put_cash.ensures.words
