@@ -4,3 +4,4 @@ pub mod DailyFigures
 pub mod Ranges
 pub mod Once
 pub mod DueLaws
+pub mod Given

@@ -3,7 +3,6 @@
 #![tactic(auto)]
 
 ghost use Rattle.std.specs.Prelude.{◌≡◌, ◌<◌, ◌≤◌, pos, nat_abs, length};
-ghost use Rattle.whole.specs.Number.{between};
 ghost use Rattle.whole.specs.Counting.{all, listed};
 ghost use Rattle.rules.specs.Sizes.{most_price, most_gross};
 ghost use Rattle.places.specs.Place.{get, dues, product_kind, quote, cash};
@@ -13,6 +12,7 @@ ghost use Rattle.soundness.specs.Sound.{product_at};
 ghost use Rattle.whole.specs.Counting.{figure_at};
 ghost use Rattle.daily.specs.DailyFigures as F;
 ghost use Rattle.daily.specs.Ranges.{Lengths, Rates, Lags, Named, Row, EachDueIn};
+ghost use Rattle.daily.specs.Given.{of_lists};
 ghost use Rattle.daily.specs.DueLaws.{moved_gross};
 ghost use Rattle.daily.specs.Once.{single_of};
 
@@ -27,26 +27,23 @@ pub const MOST_ADDED: u64 = 480000000000000;
 
 // ---- the four lists of a close
 
-pub fn lengths_ok(p: usize, prices: &[i64], rates8: &[i64], rates104: &[i64], lags: &[i64]) -> bool
-    ensures { result ≡ F.lengths_ok prices.now rates8.now rates104.now lags.now p }
-{
-    if prices.len() != p {
-        return false;
-    }
-    if rates8.len() != p {
-        return false;
-    }
-    if rates104.len() != p {
-        return false;
-    }
-    lags.len() == p
+// What a close is called with, a list each: the new price, the two rates and the lag of each product.
+#[derive(Clone, Copy)]
+pub struct Figures<'a> {
+    pub prices: &'a [i64],
+    pub rates8: &'a [i64],
+    pub rates104: &'a [i64],
+    pub lags: &'a [i64],
 }
 
-fn figure_between(list: &[i64], j: usize, lo: i64, hi: i64) -> bool
-    requires { j < length list.now }
-    ensures { result ≡ between lo hi (figure_at list.now j) }
+// Whether each list has a word for each of p products.
+pub fn lengths_ok(p: usize, figures: Figures) -> bool
+    ensures { result ≡ of_lists figures.entry F.lengths_ok p }
 {
-    whole::between(list[j], lo, hi)
+    figures.prices.len() == p
+        && figures.rates8.len() == p
+        && figures.rates104.len() == p
+        && figures.lags.len() == p
 }
 
 // The highest price of the product j: a yen price and a cross price have ranges of their own.
@@ -59,51 +56,27 @@ fn highest_price(words: &[i64], s: Shape, j: usize) -> i64
 }
 
 // Whether the product j's price, rates and lag are in range.
-fn figure_ok(
-    words: &[i64],
-    s: Shape,
-    j: usize,
-    prices: &[i64],
-    rates8: &[i64],
-    rates104: &[i64],
-    lags: &[i64],
-) -> bool
+fn figure_ok(words: &[i64], s: Shape, j: usize, figures: Figures) -> bool
     requires sized { Sized s words.now }
-    requires lengths { Lengths s.p prices.now rates8.now rates104.now lags.now }
+    requires lengths { Lengths s.p figures.prices.now figures.rates8.now figures.rates104.now figures.lags.now }
     requires j_lt_p { j < s.p }
-    ensures { result ≡ F.figure_ok prices.now rates8.now rates104.now lags.now (get by_account s words.now) j }
+    ensures { result ≡ of_lists figures.entry F.figure_ok (get by_account s words.now) j }
 {
-    if !figure_between(prices, j, 1, highest_price(words, s, j)) {
-        return false;
-    }
-    if !figure_between(rates8, j, 1, rules::sizes::MOST_RATE) {
-        return false;
-    }
-    if !figure_between(rates104, j, 1, rules::sizes::MOST_RATE) {
-        return false;
-    }
-    figure_between(lags, j, 0, LAST_LAG)
+    whole::between(figures.prices[j], 1, highest_price(words, s, j))
+        && whole::between(figures.rates8[j], 1, rules::sizes::MOST_RATE)
+        && whole::between(figures.rates104[j], 1, rules::sizes::MOST_RATE)
+        && whole::between(figures.lags[j], 0, LAST_LAG)
 }
 
-pub fn lists_ok(
-    words: &[i64],
-    s: Shape,
-    prices: &[i64],
-    rates8: &[i64],
-    rates104: &[i64],
-    lags: &[i64],
-) -> bool
+pub fn lists_ok(words: &[i64], s: Shape, figures: Figures) -> bool
     requires sized { Sized s words.now }
-    requires lengths { Lengths s.p prices.now rates8.now rates104.now lags.now }
-    ensures { result ≡ all s.p (F.figure_ok prices.now rates8.now rates104.now lags.now (get by_account s words.now)) }
+    requires lengths { Lengths s.p figures.prices.now figures.rates8.now figures.rates104.now figures.lags.now }
+    ensures { result ≡ all s.p (of_lists figures.entry F.figure_ok (get by_account s words.now)) }
 {
-    let p = s.p;
-    let mut j = 0;
-    while j < p {
-        if !figure_ok(words, s, j, prices, rates8, rates104, lags) {
+    for j in 0..s.p {
+        if !figure_ok(words, s, j, figures) {
             return false;
         }
-        j += 1;
     }
     true
 }
@@ -129,7 +102,7 @@ pub fn quoted_at(words: &[i64], s: Shape, j: usize, prices: &[i64]) -> i64
     requires j_lt_p { j < s.p }
     ensures { result ≡ figure_at prices.now (nat_abs (get by_account s words.now (quote j))) }
 {
-    let quote = whole::nat_abs(places::prod_word(words, s, j, places::QUOTE)) as usize;
+    let quote = places::prod_word(words, s, j, places::QUOTE).unsigned_abs() as usize;
     prices[quote]
 }
 
@@ -140,11 +113,13 @@ fn difference(words: &[i64], s: Shape, a: usize, j: usize, prices: &[i64]) -> i6
     requires a_lt_n { (a < s.n) × (j < s.p) }
     ensures { result ≡ F.difference prices.now (get by_account s words.now) a j }
 {
-    let kind = places::prod_word(words, s, j, places::PRODUCT_KIND);
-    let lots = places::held_word(words, s, a, j, places::LOTS);
-    let book = places::held_word(words, s, a, j, places::BOOK);
-    let quoted = quoted_at(words, s, j, prices);
-    rules::products::difference_of(kind, lots, book, prices[j], quoted)
+    rules::products::difference_of(
+        places::prod_word(words, s, j, places::PRODUCT_KIND),
+        places::held_word(words, s, a, j, places::LOTS),
+        places::held_word(words, s, a, j, places::BOOK),
+        prices[j],
+        quoted_at(words, s, j, prices),
+    )
 }
 
 // The dues move down by one.
@@ -153,43 +128,37 @@ fn move_down(words: &[i64], s: Shape, a: usize, new: &mut [i64])
     requires a_lt_n { (a < s.n) × (length new.old ≡ dues) }
     ensures { new.new ≡ listed dues (F.next_due (get by_account s words.now) a) }
 {
-    let mut d = 0;
-    while d < places::DUES {
+    for d in 0..places::DUES {
         new[d] = next_due(words, s, a, d);
-        d += 1;
     }
 }
 
 // Each product's difference is added to the due that its lag names.
-fn add_differences(words: &[i64], s: Shape, a: usize, prices: &[i64], lags: &[i64], new: &mut [i64])
+fn add_differences(words: &[i64], s: Shape, a: usize, figures: Figures, new: &mut [i64])
     requires sized { Sized s words.now }
-    requires named { Named prices.now s (get by_account s words.now) × Row prices.now s (get by_account s words.now) a }
+    requires named { Named figures.prices.now s (get by_account s words.now) × Row figures.prices.now s (get by_account s words.now) a }
     requires each_due_in { EachDueIn (get by_account s words.now) a }
-    requires lags { Lags s.p lags.now }
+    requires lags { Lags s.p figures.lags.now }
     requires a_lt_n { (a < s.n) × (new.old ≡ listed dues (F.next_due (get by_account s words.now) a)) }
-    ensures { new.new ≡ listed dues (F.new_due prices.now lags.now s (get by_account s words.now) a) }
+    ensures { new.new ≡ listed dues (F.new_due figures.entry.prices.now figures.entry.lags.now s (get by_account s words.now) a) }
 {
-    let p = s.p;
-    let mut j = 0;
-    while j < p {
-        let d = whole::nat_abs(lags[j]) as usize;
-        let more = difference(words, s, a, j, prices);
-        new[d] = new[d] + more;
-        j += 1;
+    for j in 0..s.p {
+        let d = figures.lags[j].unsigned_abs() as usize;
+        new[d] += difference(words, s, a, j, figures.prices);
     }
 }
 
 // The new dues of an account.
-pub fn new_dues(words: &[i64], s: Shape, a: usize, prices: &[i64], lags: &[i64], new: &mut [i64])
+pub fn new_dues(words: &[i64], s: Shape, a: usize, figures: Figures, new: &mut [i64])
     requires sized { Sized s words.now }
-    requires named { Named prices.now s (get by_account s words.now) × Row prices.now s (get by_account s words.now) a }
+    requires named { Named figures.prices.now s (get by_account s words.now) × Row figures.prices.now s (get by_account s words.now) a }
     requires each_due_in { EachDueIn (get by_account s words.now) a }
-    requires lags { Lags s.p lags.now }
+    requires lags { Lags s.p figures.lags.now }
     requires a_lt_n { (a < s.n) × (length new.old ≡ dues) }
-    ensures { new.new ≡ listed dues (F.new_due prices.now lags.now s (get by_account s words.now) a) }
+    ensures { new.new ≡ listed dues (F.new_due figures.entry.prices.now figures.entry.lags.now s (get by_account s words.now) a) }
 {
     move_down(words, s, a, new);
-    add_differences(words, s, a, prices, lags, new);
+    add_differences(words, s, a, figures, new);
 }
 
 // The gross of an account whose dues have moved down, before any difference is added.
@@ -199,11 +168,9 @@ pub fn moved_gross(words: &[i64], s: Shape, a: usize) -> u64
     requires a_lt_n { (a < s.n) × (nat_abs (get by_account s words.now (cash a)) ≤ most_gross) }
     ensures { result ≡ moved_gross (get by_account s words.now) a }
 {
-    let mut gross = whole::nat_abs(places::acct_word(words, s, a, places::CASH));
-    let mut d = 0;
-    while d < places::DUES {
-        gross += whole::nat_abs(next_due(words, s, a, d));
-        d += 1;
+    let mut gross = places::acct_word(words, s, a, places::CASH).unsigned_abs();
+    for d in 0..places::DUES {
+        gross += next_due(words, s, a, d).unsigned_abs();
     }
     gross
 }
@@ -225,23 +192,17 @@ fn product_at(words: &[i64], s: Shape, j: usize) -> Product
 }
 
 // The margin of a lot of the product j, from the new price of the principal currency against yen and the new rates.
-pub fn single_at(
-    words: &[i64],
-    s: Shape,
-    j: usize,
-    prices: &[i64],
-    rates8: &[i64],
-    rates104: &[i64],
-) -> u64
+pub fn single_at(words: &[i64], s: Shape, j: usize, figures: Figures) -> u64
     requires sized { Sized s words.now }
-    requires named { Named prices.now s (get by_account s words.now) }
-    requires rates { Rates s.p rates8.now rates104.now }
+    requires named { Named figures.prices.now s (get by_account s words.now) }
+    requires rates { Rates s.p figures.rates8.now figures.rates104.now }
     requires j_lt_p { j < s.p }
-    ensures { result ≡ single_of prices.now rates8.now rates104.now (get by_account s words.now) j }
+    ensures { result ≡ single_of figures.entry.prices.now figures.entry.rates8.now figures.entry.rates104.now (get by_account s words.now) j }
 {
     let product = product_at(words, s, j);
-    let mark = product.mark;
-    let yen = rules::products::yen_product(product, j);
-    let rate = rules::products::rate_of(mark, rates8[j], rates104[j]);
-    rules::products::lot_margin(prices[yen], rate)
+    let rate = rules::products::rate_of(product.mark, figures.rates8[j], figures.rates104[j]);
+    rules::products::lot_margin(
+        figures.prices[rules::products::yen_product(product, j)],
+        rate,
+    )
 }
