@@ -1,24 +1,33 @@
 -- `close` meets its contract: the gate, then the rule on a ledger that is sound. Assumes nothing.
-use mathlib.Core.Path.{refl}
+use Rattle.std.specs.Prelude.{◌≡◌, refl, Bool, true, false, cond, not, List, ℤ, Option, Some, None}
+use Rattle.std.proofs.Common.{rules, sym, ap, ◌∙◌}
+use Rattle.places.specs.declared.Shape.{Shape}
 use Rattle.places.specs.ByAccount.{by_account}
+use Rattle.places.specs.Act.{shape_of}
+use Rattle.soundness.specs.Sound.{sound}
 use Rattle.soundness.specs.SoundLaws.{Ledger}
-use Rattle.soundness.specs.PerformLaws.{gate_shut, gate_two, gate_ledger, gate_open}
-use Rattle.std.proofs.Common.{ap, not}
-use Rattle.closing.proofs.close.Goals.{After-shape_of-s}
+use Rattle.soundness.specs.PerformLaws.{gate_shut, gate_ledger, gate_open}
 use Rattle.closing.proofs.close.Goals as goal
 
+none : (t : Bool) (x : Shape) → cond t (Some x) None ≡ None → t ≡ false
+none true x e = search rules
+none false x e = refl
+
+some : (t : Bool) (x s : Shape) → cond t (Some x) None ≡ Some s → (t ≡ true) × (s ≡ x)
+some true x s e = (refl, search rules)
+some false x s e = search rules
+
 -- the words are a ledger of the shape that was read
-ledger : (c : After-shape_of-s) → Ledger by_account c.shape_of-s.result c.args.words.now
-ledger c = let d = c in gate_ledger _ d.sound.ensures (ap not d.if-not-sound.false) c.shape_of-s.ensures
+ledger : (W : List ℤ) (o : Option Shape) (s : Shape) → o ≡ cond (sound by_account W) (Some (shape_of W)) None → o ≡ Some s → Ledger by_account s W
+ledger W o s e q = let z = some (sound by_account W) (shape_of W) s (sym e ∙ q) in gate_ledger W refl (ap not z.0) z.1
 
-pub returns-then-not-sound : goal.returns-then-not-sound
-returns-then-not-sound c = gate_shut _ c.sound.ensures _ _ (ap not c.if-not-sound.true) refl c.refused.ensures
-
-pub shape_of-s-requires : goal.shape_of-s-requires
-shape_of-s-requires c = gate_two _ c.sound.ensures (ap not c.if-not-sound.false)
+pub returns-in_default : goal.returns-in_default
+returns-in_default c =
+    gate_shut _ refl _ _ (ap not (none _ _ (sym c.sound_shape.ensures ∙ c.in_default.is))) refl c.from.ensures
 
 pub close_in-requires : goal.close_in-requires
-close_in-requires c = ledger (goal.at.close_in-requires c).After-shape_of-s
+close_in-requires c = ledger _ _ _ c.sound_shape.ensures c.in-Some.is
 
 pub returns : goal.returns
-returns c = gate_open _ _ _ _ _ refl (ledger (goal.at.returns c).After-shape_of-s) c.close_in.ensures
+returns c =
+    gate_open _ _ _ _ _ refl (ledger _ _ _ c.sound_shape.ensures c.in-Some.is) ((λ i. (c.from-2.ensures i, c.close_in.new.words)) ∙ c.close_in.ensures)

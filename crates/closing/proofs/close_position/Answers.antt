@@ -1,108 +1,107 @@
 -- `close_position` meets its contract: the words are read before any is put, and each sum has room. Assumes nothing.
 use mathlib.Core.Path.{◌≡◌, ap, ap₂, ◌∙◌}
-use Prim.Native.Nat.{ℕ, ◌≤◌, ◌<◌, ◌^◌}
+use Prim.Native.Nat.{ℕ, ◌≤◌}
 use native.Mathlib.Omega.{arith}
 use lib.IntN.{ℤ, pos, nat_abs, ◌+ℤ◌, ◌*ℤ◌}
 use mir.Syntax.{w64}
 use mir.Val.{SFits, to_z, of_z}
-use Rattle.std.specs.Int.Signed.{mag}
-use mir.ValLaws.{to_z_pos}
+use Rattle.std.proofs.Common.{rules}
 use Rattle.whole.specs.Reps.{small}
-use Rattle.whole.specs.Signs.{arg, came}
+use Rattle.whole.specs.Signs.{arg}
 use Rattle.whole.specs.Tests.{abs_add}
 use Rattle.rules.specs.Product.{difference_of}
 use Rattle.rules.specs.ProductLaws.{Fair, most_lot_margin, margin_at, margin-at_in, fair_in, times_in, price-most}
 use Rattle.places.specs.Place.{View, get, put, margin, due, lots, book}
 use Rattle.places.specs.ByAccount.{by_account}
+use Rattle.closing.specs.declared.Terms.{Terms}
 use Rattle.closing.specs.WholeWalk.{Roomy}
+use Rattle.closing.proofs.close_position.Goals.{After-margin_at-charge}
 use Rattle.closing.proofs.close_position.Goals as goal
 
 -- the figures of a position, and what is made of them
-module _ (g : View) (a j : ℕ) (kind price quoted : ℤ) (single d : ℕ) (f : Fair kind (g (lots a j)) (g (book a j)) price quoted) (r : Roomy g a d) (s : single ≤ most_lot_margin) where
+module _ (g : View) (a j : ℕ) (t : Terms) (f : Fair t.kind (g (lots a j)) (g (book a j)) t.price t.quoted) (r : Roomy g a t.due) (s : t.single ≤ most_lot_margin) where
   abbrev held : ℤ
   held = g (lots a j)
 
   abbrev more : ℤ
-  more = difference_of kind held (g (book a j)) price quoted
+  more = difference_of t.kind held (g (book a j)) t.price t.quoted
 
   abbrev charged : ℕ
-  charged = margin_at held single
+  charged = margin_at held t.single
 
   more-in : nat_abs more ≤ 30000000000000
-  more-in = fair_in kind held (g (book a j)) price quoted f
+  more-in = fair_in t.kind held (g (book a j)) t.price t.quoted f
 
   charged-in : charged ≤ 500000000000
-  charged-in = margin-at_in held single f.lots_in s
+  charged-in = margin-at_in held t.single f.lots_in s
 
-  abbrev new-due : ℤ
-  new-due = g (due a d) +ℤ more
+  due-fits : SFits w64 (g (due a t.due) +ℤ more)
+  due-fits = small (g (due a t.due) +ℤ more) 1510000000000000 (omega (arith, abs_add (g (due a t.due)) more, more-in, r.due_in)) (omega arith)
 
-  due-fits : SFits w64 new-due
-  due-fits = small new-due 1510000000000000 (omega (arith, abs_add (g (due a d)) more, more-in, r.due_in)) (omega arith)
+  margin-fits : SFits w64 (g (margin a) +ℤ pos charged)
+  margin-fits = small (g (margin a) +ℤ pos charged) 9000000000000 (omega (arith, abs_add (g (margin a)) (pos charged), charged-in, r.margin_in)) (omega arith)
 
-  abbrev new-margin : ℤ
-  new-margin = g (margin a) +ℤ pos charged
+  book-fits : SFits w64 (held *ℤ t.price)
+  book-fits = small (held *ℤ t.price) 5000000000000 (times_in held t.price f.lots_in (omega (arith, f.price_in, price-most t.kind))) (omega arith)
 
-  margin-fits : SFits w64 new-margin
-  margin-fits = small new-margin 9000000000000 (omega (arith, abs_add (g (margin a)) (pos charged), charged-in, r.margin_in)) (omega arith)
+-- the sums and the product, as the code has them
+module _ (c : After-margin_at-charge) where
+  abbrev g' : View
+  g' = get by_account c.args.s c.args.words.now
 
-  book-fits : SFits w64 (held *ℤ price)
-  book-fits = small (held *ℤ price) 5000000000000 (times_in held price f.lots_in (omega (arith, f.price_in, price-most kind))) (omega arith)
+  due-read : to_z w64 (of_z w64 c.acct_word-due.result) ≡ g' (due c.args.a c.args.terms.due)
+  due-read = search rules
 
-  -- what the code has of the difference x and the margin y, by the words that it read
-  module _ (n b : ℤ) (lots-is : to_z w64 (of_z w64 n) ≡ held) where
-    more-is : (x : ℤ) → mag x < 2 ^ 63 → to_z w64 (of_z w64 b) ≡ g (book a j) → to_z w64 (of_z w64 kind) ≡ kind → to_z w64 (of_z w64 price) ≡ price → to_z w64 (of_z w64 quoted) ≡ quoted
-        → x ≡ difference_of (to_z w64 (of_z w64 kind)) (to_z w64 (of_z w64 n)) (to_z w64 (of_z w64 b)) (to_z w64 (of_z w64 price)) (to_z w64 (of_z w64 quoted)) → to_z w64 (of_z w64 x) ≡ more
-    more-is x h book-is kind-is price-is quoted-is e = came x h (e ∙ λ i. difference_of (kind-is i) (lots-is i) (book-is i) (price-is i) (quoted-is i))
+  more-is : to_z w64 (of_z w64 c.difference_of-difference.result)
+      ≡ difference_of c.args.terms.kind (g' (lots c.args.a c.args.j)) (g' (book c.args.a c.args.j)) c.args.terms.price c.args.terms.quoted
+  more-is = search rules
 
-    charge-is : (y : ℕ) → y ≡ margin_at (to_z w64 (of_z w64 n)) single → to_z w64 y ≡ pos charged
-    charge-is y e =
-        let q : y ≡ charged = e ∙ ap (λ z. margin_at z single) lots-is in
-        to_z_pos w64 y (omega (arith, q, charged-in)) ∙ ap pos q
+  margin-read : to_z w64 (of_z w64 c.acct_word-margin.result) ≡ g' (margin c.args.a)
+  margin-read = search rules
+
+  charge-is : to_z w64 c.margin_at-charge.result ≡ pos (margin_at (g' (lots c.args.a c.args.j)) c.args.terms.single)
+  charge-is = search rules
+
+  lots-read : to_z w64 (of_z w64 c.held_word-lots.result) ≡ g' (lots c.args.a c.args.j)
+  lots-read = search rules
+
+  price-is : to_z w64 (of_z w64 c.args.terms.price) ≡ c.args.terms.price
+  price-is = search rules
+
+  due-is : to_z w64 (of_z w64 c.acct_word-due.result) +ℤ to_z w64 (of_z w64 c.difference_of-difference.result)
+      ≡ g' (due c.args.a c.args.terms.due) +ℤ difference_of c.args.terms.kind (g' (lots c.args.a c.args.j)) (g' (book c.args.a c.args.j)) c.args.terms.price c.args.terms.quoted
+  due-is = ap₂ (λ y z. y +ℤ z) due-read more-is
+
+  margin-is : to_z w64 (of_z w64 c.acct_word-margin.result) +ℤ to_z w64 c.margin_at-charge.result
+      ≡ g' (margin c.args.a) +ℤ pos (margin_at (g' (lots c.args.a c.args.j)) c.args.terms.single)
+  margin-is = ap₂ (λ y z. y +ℤ z) margin-read charge-is
+
+  book-is : to_z w64 (of_z w64 c.held_word-lots.result) *ℤ to_z w64 (of_z w64 c.args.terms.price) ≡ g' (lots c.args.a c.args.j) *ℤ c.args.terms.price
+  book-is = ap₂ (λ y z. y *ℤ z) lots-read price-is
 
 pub overflow_add-due : goal.overflow_add-due
 overflow_add-due c =
-    let x = c.args in let g = get by_account x.s x.words.now in let r = c.requires in
-    let n = c.held_word-lots in let b = c.held_word-book in let w = c.acct_word-due in let m = c.difference_of-difference in
-    let single : x.single ≤ most_lot_margin = r.a_lt_n.3 in
-    rw (
-      came w.result w.type_inv w.ensures,
-      more-is g x.a x.j x.kind x.price x.quoted x.single x.d r.fair r.roomy single n.result b.result (came n.result n.type_inv n.ensures) m.result m.type_inv (came b.result b.type_inv b.ensures)
-          (arg c.ranges.kind) (arg c.ranges.price) (arg c.ranges.quoted) m.ensures,
-    )
-    (due-fits g x.a x.j x.kind x.price x.quoted x.single x.d r.fair r.roomy single)
+    let x = c.args in let r = c.requires in
+    rw (due-is (goal.at.overflow_add-due c).After-margin_at-charge) (due-fits (get by_account x.s x.words.now) x.a x.j x.terms r.fair r.roomy r.a_lt_n.3)
 
 pub overflow_add-margin : goal.overflow_add-margin
 overflow_add-margin c =
-    let x = c.args in let g = get by_account x.s x.words.now in let r = c.requires in
-    let n = c.held_word-lots in let b = c.held_word-book in let w = c.acct_word-margin in let m = c.margin_at-charge in
-    let single : x.single ≤ most_lot_margin = r.a_lt_n.3 in
-    rw (
-      came w.result w.type_inv w.ensures,
-      charge-is g x.a x.j x.kind x.price x.quoted x.single x.d r.fair r.roomy single n.result b.result (came n.result n.type_inv n.ensures) m.result m.ensures,
-    )
-    (margin-fits g x.a x.j x.kind x.price x.quoted x.single x.d r.fair r.roomy single)
+    let x = c.args in let r = c.requires in
+    rw (margin-is (goal.at.overflow_add-margin c).After-margin_at-charge) (margin-fits (get by_account x.s x.words.now) x.a x.j x.terms r.fair r.roomy r.a_lt_n.3)
 
 pub overflow_mul-lots : goal.overflow_mul-lots
 overflow_mul-lots c =
-    let x = c.args in let g = get by_account x.s x.words.now in let r = c.requires in let n = c.held_word-lots in
-    rw (came n.result n.type_inv n.ensures, arg c.ranges.price) (book-fits g x.a x.j x.kind x.price x.quoted x.single x.d r.fair r.roomy r.a_lt_n.3)
+    let x = c.args in let r = c.requires in
+    rw (book-is (goal.at.overflow_mul-lots c).After-margin_at-charge) (book-fits (get by_account x.s x.words.now) x.a x.j x.terms r.fair r.roomy r.a_lt_n.3)
 
 pub returns : goal.returns
 returns c =
     let x = c.args in let s = x.s in let g = get by_account s x.words.now in let r = c.requires in
-    let n = c.held_word-lots in let b = c.held_word-book in let wd = c.acct_word-due in let wm = c.acct_word-margin in
-    let m = c.difference_of-difference in let k = c.margin_at-charge in
-    let single : x.single ≤ most_lot_margin = r.a_lt_n.3 in
-    let lots-is = came n.result n.type_inv n.ensures in let price-is = arg c.ranges.price in
-    let more-now = more-is g x.a x.j x.kind x.price x.quoted x.single x.d r.fair r.roomy single n.result b.result lots-is m.result m.type_inv (came b.result b.type_inv b.ensures)
-    (arg c.ranges.kind) price-is (arg c.ranges.quoted) m.ensures in
-    let charge-now = charge-is g x.a x.j x.kind x.price x.quoted x.single x.d r.fair r.roomy single n.result b.result lots-is k.result k.ensures in
+    let d = (goal.at.returns c).After-margin_at-charge in let single : x.terms.single ≤ most_lot_margin = r.a_lt_n.3 in
     c.put_held.ensures
     ∙ ap₂ (λ X v. put by_account s X (book x.a x.j) v)
     (c.put_acct-2.ensures
     ∙ ap₂ (λ X v. put by_account s X (margin x.a) v)
-    (c.put_acct.ensures ∙ ap (put by_account s x.words.now (due x.a x.d))
-    (ap₂ (λ y z. to_z w64 (of_z w64 (y +ℤ z))) (came wd.result wd.type_inv wd.ensures) more-now ∙ arg (due-fits g x.a x.j x.kind x.price x.quoted x.single x.d r.fair r.roomy single)))
-    (ap₂ (λ y z. to_z w64 (of_z w64 (y +ℤ z))) (came wm.result wm.type_inv wm.ensures) charge-now ∙ arg (margin-fits g x.a x.j x.kind x.price x.quoted x.single x.d r.fair r.roomy single)))
-    (ap₂ (λ y z. to_z w64 (of_z w64 (y *ℤ z))) lots-is price-is ∙ arg (book-fits g x.a x.j x.kind x.price x.quoted x.single x.d r.fair r.roomy single))
+    (c.put_acct.ensures ∙ ap (put by_account s x.words.now (due x.a x.terms.due)) (ap (λ z. to_z w64 (of_z w64 z)) (due-is d) ∙ arg (due-fits g x.a x.j x.terms r.fair r.roomy single)))
+    (ap (λ z. to_z w64 (of_z w64 z)) (margin-is d) ∙ arg (margin-fits g x.a x.j x.terms r.fair r.roomy single)))
+    (ap (λ z. to_z w64 (of_z w64 z)) (book-is d) ∙ arg (book-fits g x.a x.j x.terms r.fair r.roomy single))

@@ -31,12 +31,12 @@ module _ (s : Shape) (P L W8 W104 W : List ℤ) (z : Sized s W) (st : Started P 
 
 pub close_product-requires-clause-named : goal.close_product-requires-clause-named
 close_product-requires-clause-named c =
-    let x = c.args in let r = c.requires in let j = c.loop-j.j in let s = x.s in let g = get by_account s x.words.now in
-    named_then x.prices.now x.rates8.now x.rates104.now x.lags.now s g r.sized.few' r.started r.rates r.lags.names j (omega arith) (get by_account s c.loop-j.words)
-    (then s x.prices.now x.lags.now x.rates8.now x.rates104.now x.words.now r.sized r.started r.rates r.lags j c.loop-j.invariant.0 c.loop-j.words c.loop-j.invariant.1)
+    let x = c.args in let f = x.figures in let r = c.requires in let j = c.loop-j.j in let s = x.s in let g = get by_account s x.words.now in
+    named_then f.prices.now f.rates8.now f.rates104.now f.lags.now s g r.sized.few' r.started r.rates r.lags.names j (omega arith) (get by_account s c.loop-j.words)
+    (then s f.prices.now f.lags.now f.rates8.now f.rates104.now x.words.now r.sized r.started r.rates r.lags j (omega arith) c.loop-j.words c.loop-j.invariant)
 
 pub close_product-requires-clause-column : goal.close_product-requires-clause-column
 close_product-requires-clause-column c =
-    let x = c.args in let r = c.requires in let j = c.loop-j.j in let s = x.s in let g = get by_account s x.words.now in
-    column_then x.prices.now x.rates8.now x.rates104.now x.lags.now s g r.sized.few' r.started r.rates r.lags.names j (omega arith) (get by_account s c.loop-j.words)
-    (then s x.prices.now x.lags.now x.rates8.now x.rates104.now x.words.now r.sized r.started r.rates r.lags j c.loop-j.invariant.0 c.loop-j.words c.loop-j.invariant.1)
+    let x = c.args in let f = x.figures in let r = c.requires in let j = c.loop-j.j in let s = x.s in let g = get by_account s x.words.now in
+    column_then f.prices.now f.rates8.now f.rates104.now f.lags.now s g r.sized.few' r.started r.rates r.lags.names j (omega arith) (get by_account s c.loop-j.words)
+    (then s f.prices.now f.lags.now f.rates8.now f.rates104.now x.words.now r.sized r.started r.rates r.lags j (omega arith) c.loop-j.words c.loop-j.invariant)

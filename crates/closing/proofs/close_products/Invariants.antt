@@ -3,11 +3,9 @@
 use mathlib.Core.Path.{◌≡◌}
 use Prim.Native.Nat.{◌-◌, ◌≤◌}
 use Rattle.places.specs.ByAccount.{by_account}
+use Rattle.daily.specs.Given.{of_lists}
 use Rattle.closing.specs.Walk.{walked}
 use Rattle.closing.proofs.close_products.Given as goal
 
 abbrev pub invariant-loop-j : goal.invariant-loop-j
-invariant-loop-j l = (l.j ≤ l.s.p) × (l.words ≡ walked by_account l.s l.prices l.rates8 l.rates104 l.lags l.j l.initial.words)
-
-abbrev pub decreases-loop-j : goal.decreases-loop-j
-decreases-loop-j l = l.s.p - l.j
+invariant-loop-j l = l.words ≡ of_lists l.fn.figures (walked by_account l.s) l.j l.initial.words

@@ -3,6 +3,7 @@
 use mathlib.Core.Bool.{false}
 use mathlib.Core.List.{List}
 use mathlib.Core.Path.{◌≡◌}
+use Rattle.std.specs.Prelude.{None}
 use Prim.Native.Nat.{ℕ, ◌+◌, ◌-◌, ◌≤◌, ◌<◌}
 use lib.IntN.{ℤ, nat_abs}
 use lib.ListN.{length}
@@ -18,15 +19,11 @@ abbrev pub due-abs : List ℤ → Shape → List ℤ → List ℤ → ℕ → �
 due-abs W s prices lags a d = nat_abs (new_due prices lags s (get by_account s W) a d)
 
 -- the gross of the cash and the first d new dues, still in range
-abbrev pub invariant-loop-d : goal.invariant-loop-d
-invariant-loop-d l = (l.d ≤ dues) × (l.gross ≡ nat_abs (get by_account l.s l.words (cash l.a)) + total l.d (due-abs l.words l.s l.prices l.lags l.a)) × (l.gross ≤ most_gross)
-
-abbrev pub decreases-loop-d : goal.decreases-loop-d
-decreases-loop-d l = dues - l.d
+abbrev pub invariant-loop-due : goal.invariant-loop-due
+invariant-loop-due l = let f = l.fn.figures in
+    (l.found ≡ None) × (l.gross ≡ nat_abs (get by_account l.s l.words (cash l.a)) + total l.due-index (due-abs l.words l.s f.prices.now f.lags.now l.a)) × (l.gross ≤ most_gross)
 
 -- no account before a is over
 abbrev pub invariant-search : goal.invariant-search
-invariant-search l = (l.a ≤ l.s.n) × (length l.new ≡ dues) × ((k : ℕ) → k < l.a → over_gross l.prices l.lags l.s (get by_account l.s l.words) k ≡ false)
-
-abbrev pub decreases-search : goal.decreases-search
-decreases-search l = l.s.n - l.a
+invariant-search l = let f = l.fn.figures in
+    (l.found ≡ None) × ((k : ℕ) → k < l.a → over_gross f.prices.now f.lags.now l.s (get by_account l.s l.words) k ≡ false)

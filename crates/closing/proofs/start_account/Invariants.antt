@@ -7,7 +7,4 @@ use Rattle.closing.specs.Walk.{move_puts}
 use Rattle.closing.proofs.start_account.Given as goal
 
 abbrev pub invariant-loop-d : goal.invariant-loop-d
-invariant-loop-d l = (l.d ≤ dues) × (l.words ≡ puts by_account l.s l.initial.words (each l.d (move_puts (get by_account l.s l.initial.words) l.a)))
-
-abbrev pub decreases-loop-d : goal.decreases-loop-d
-decreases-loop-d l = dues - l.d
+invariant-loop-d l = l.words ≡ puts by_account l.s l.initial.words (each l.d (move_puts (get by_account l.s l.initial.words) l.a))

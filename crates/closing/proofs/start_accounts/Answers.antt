@@ -34,8 +34,6 @@ module _ (s : Shape) (a : ℕ) where
 
 pub loop-a-preserved : goal.loop-a-preserved
 loop-a-preserved c =
-    let s = c.args.s in let W = c.args.words.now in let a = c.loop-a.a in (
-      omega arith,
-      pass_more by_account s (account_sees a) start_puts a (start-sees s a (omega arith)) W c.loop-a.words c.start_account.new.words c.loop-a.invariant.1
-          (started_off s a (get by_account s W) c.loop-a.invariant.0) c.start_account.ensures,
-    )
+    let s = c.args.s in let W = c.args.words.now in let a = c.loop-a.a in
+    pass_more by_account s (account_sees a) start_puts a (start-sees s a (omega arith)) W c.loop-a.words c.start_account.new.words c.loop-a.invariant
+        (started_off s a (get by_account s W) (omega arith)) c.start_account.ensures

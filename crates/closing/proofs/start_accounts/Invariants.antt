@@ -8,7 +8,4 @@ use Rattle.closing.specs.Walk.{start_puts}
 use Rattle.closing.proofs.start_accounts.Given as goal
 
 abbrev pub invariant-loop-a : goal.invariant-loop-a
-invariant-loop-a l = (l.a ≤ l.s.n) × (l.words ≡ puts by_account l.s l.initial.words (each l.a (start_puts (get by_account l.s l.initial.words))))
-
-abbrev pub decreases-loop-a : goal.decreases-loop-a
-decreases-loop-a l = l.s.n - l.a
+invariant-loop-a l = l.words ≡ puts by_account l.s l.initial.words (each l.a (start_puts (get by_account l.s l.initial.words)))
