@@ -1,6 +1,6 @@
 -- No clause fails exactly where the words are sound: `none_on_sound`. Assumes nothing.
-use Rattle.std.specs.Prelude.{◌≡◌, refl, List, Bool, true, false, ◌&&◌, ℕ, zero, suc, ◌+◌, ◌-◌, ◌<◌, eqb, leb, ltb, ℤ, pos, length}
-use Rattle.std.proofs.Common.{sym, ap, ap₂, ◌∙◌, ⊎_elim, leb-false, add-one, arith}
+use Rattle.std.specs.Prelude.{◌≡◌, refl, Option, Some, None, List, Bool, true, false, ◌&&◌, ℕ, zero, suc, ◌+◌, ◌-◌, ◌<◌, eqb, leb, ltb, ℤ, pos, length}
+use Rattle.std.proofs.Common.{sym, ap, subst, ap₂, ◌∙◌, ⊎_elim, leb-false, arith}
 use Rattle.whole.specs.Number.{within, between, is, unless}
 use Rattle.whole.specs.Counting.{all, sum}
 use Rattle.whole.specs.Tests.{below-or-last}
@@ -12,13 +12,14 @@ use Rattle.places.specs.Place.{View, Layout, get, heads, words_of, phase, house,
 use Rattle.places.specs.Act.{shape_of, shape_ok}
 use Rattle.places.specs.ActLaws.{sound-at, not-sized}
 use Rattle.soundness.specs.Sound.{account_at, pair_ok, product_ok, held_ok, positions_ok, head_ok, figures_ok, places_ok, turn, done_ok, to_come_ok, sound}
+use Rattle.clauses.specs.declared.Clause.TheVariants.{Heads, ToCome}
 use Rattle.clauses.specs.declared.Failing.{Failing}
 use Rattle.clauses.specs.Clauses.{fails, is_none, none, or_else, first_of, of_shape, of_head, of_product, of_account, of_position, of_balance, of_positions, of_done, of_run, of_figures, of_places, first_failing}
 
 -- ---- tests in a row
 
 -- one test more: what fails at it is a clause
-after : (s t : Bool) (f h : Failing) → is_none f ≡ false → (s && is_none (unless t f h)) ≡ (s && t && is_none h)
+after : (s t : Bool) (f h : Option Failing) → is_none f ≡ false → (s && is_none (unless t f h)) ≡ (s && t && is_none h)
 after false t f h e = refl
 after true true f h e = refl
 after true false f h e = e
@@ -27,42 +28,30 @@ and_true : (s : Bool) → (s && true) ≡ s
 and_true true = refl
 and_true false = refl
 
-last : (s t : Bool) (f : Failing) → is_none f ≡ false → (s && is_none (unless t f none)) ≡ (s && t)
+last : (s t : Bool) (f : Option Failing) → is_none f ≡ false → (s && is_none (unless t f none)) ≡ (s && t)
 last s t f e = after s t f none e ∙ and_true (s && t)
 
-pub or-else : (f h : Failing) → is_none (or_else f h) ≡ (is_none f && is_none h)
-or-else f h = go (is_none f) refl
-  where
-    go : (t : Bool) → is_none f ≡ t → is_none (or_else f h) ≡ (is_none f && is_none h)
-    go true e = rw e
-    go false e = rw e e
+pub or-else : (f h : Option Failing) → is_none (or_else f h) ≡ (is_none f && is_none h)
+or-else None h = refl
+or-else (Some f) h = refl
 
-pub or-first : (f h : Failing) → is_none f ≡ false → or_else f h ≡ f
-or-first f h e = rw e
-
-pub or_later : (f h : Failing) → is_none f ≡ true → or_else f h ≡ h
-or_later f h e = rw e
-
-first-of : (n : ℕ) (f : ℕ → Failing) (t : ℕ → Bool) → ((i : ℕ) → is_none (f i) ≡ t i) → is_none (first_of n f) ≡ all n t
+first-of : (n : ℕ) (f : ℕ → Option Failing) (t : ℕ → Bool) → ((i : ℕ) → is_none (f i) ≡ t i) → is_none (first_of n f) ≡ all n t
 first-of zero f t e = refl
 first-of (suc n) f t e = or-else (first_of n f) (f n) ∙ ap₂ ◌&&◌ (first-of n f t e) (e n)
 
--- a walk over f 0, f 1, ..: the next one where none before it fails; and it is the first of all where it does
-pub first_next : (i : ℕ) (f : ℕ → Failing) → is_none (first_of i f) ≡ true → first_of (i + 1) f ≡ f i
-first_next i f e = ap (λ k. first_of k f) (add-one i) ∙ rw e
+-- ---- a test of a row: the first that is not passed gives the answer
 
-pub first-fails : (n i : ℕ) (f : ℕ → Failing) → i < n → is_none (first_of i f) ≡ true → is_none (f i) ≡ false → first_of n f ≡ f i
-first-fails zero i f h e x = elim h [ ]
-first-fails (suc m) i f h e x =
-    ⊎_elim (λ l. rw (first-fails m i f l e x, x)) (λ l. let k : suc m ≡ i + 1 = omega (arith, l) in ap (λ n. first_of n f) k ∙ first_next i f e) (below-or-last i m h)
+pub stops : {t : Bool} {r f : Option Failing} (h : Option Failing) → t ≡ false → r ≡ f → r ≡ unless t f h
+stops h e p = rw e p
 
--- ---- what a function gave, by what it was given: a clause and its figure, and a test before what fails later
+pub passes : {t : Bool} {r h : Option Failing} (f : Option Failing) → t ≡ true → r ≡ h → r ≡ unless t f h
+passes f e p = rw e p
 
-pub figured : {r : Failing} (k a j : ℕ) {x z : ℤ} → r ≡ fails k a j x → x ≡ z → r ≡ fails k a j z
-figured k a j e w = e ∙ ap (fails k a j) w
-
-pub tested : {r : Failing} (u : Bool) {t : Bool} {f f' h h' : Failing} → r ≡ unless t f h → t ≡ u → f ≡ f' → h ≡ h' → r ≡ unless u f' h'
-tested u e p q l = e ∙ (λ i. unless (p i) (q i) (l i))
+-- the first of n that fails
+pub first-fails : (n i : ℕ) (f : ℕ → Option Failing) (x : Failing) → i < n → first_of i f ≡ none → Some x ≡ f i → Some x ≡ first_of n f
+first-fails zero i f x h e p = elim h [ ]
+first-fails (suc m) i f x h e p =
+    ⊎_elim (λ l. rw (sym (first-fails m i f x l e p)) refl) (λ l. subst (λ k. Some x ≡ or_else (first_of k f) (f k)) l (rw e p)) (below-or-last i m h)
 
 -- ---- the clauses of a part, and its test
 
@@ -88,6 +77,10 @@ position_none g j a = after true (within most_lots (g (lots a j))) _ _ refl ∙ 
 pub positions_held : (n : ℕ) (g : View) (j : ℕ) → is_none (first_of n (of_position g j)) ≡ all n (held_ok g j)
 positions_held n g j = first-of n (of_position g j) (held_ok g j) (position_none g j)
 
+-- where no position fails, each of them is in range
+pub held_where_none : (n : ℕ) (g : View) (j : ℕ) → first_of n (of_position g j) ≡ None → all n (held_ok g j) ≡ true
+held_where_none n g j e = sym (positions_held n g j) ∙ ap is_none e
+
 positions_none : (n : ℕ) (g : View) (j : ℕ) → is_none (of_positions n g j) ≡ positions_ok n g j
 positions_none n g j =
     or-else (first_of n (of_position g j)) (of_balance n g j)
@@ -95,7 +88,7 @@ positions_none n g j =
 
 run_none : (s : Shape) (g : View) → is_none (of_run s g) ≡ (done_ok g && to_come_ok s g)
 run_none s g =
-    or-else (first_of (turn g - 1) (of_done g)) (unless (to_come_ok s g) (fails 20 0 0 (pos 0)) none)
+    or-else (first_of (turn g - 1) (of_done g)) (unless (to_come_ok s g) (fails ToCome 0 0 (pos 0)) none)
     ∙ ap₂ ◌&&◌
     (first-of (turn g - 1) (of_done g) (λ a. is 0 (g (due a 0))) (λ a. last true (is 0 (g (due a 0))) _ refl))
     (last true (to_come_ok s g) _ refl)
@@ -111,6 +104,10 @@ figures_none s g =
     (first-of s.n (λ a. of_account (account_at g a) a) (λ a. account_ok (account_at g a)) (λ a. account-none (account_at g a) a)))
     (first-of s.p (of_positions s.n g) (positions_ok s.n g) (positions_none s.n g))
 
+-- where no figure fails, the run may be tested
+pub figures_where_none : (s : Shape) (g : View) → of_figures s g ≡ None → figures_ok s g ≡ true
+figures_where_none s g e = sym (figures_none s g) ∙ ap is_none e
+
 places-none : (s : Shape) (g : View) → is_none (of_places s g) ≡ places_ok s g
 places-none s g = or-else (of_figures s g) (of_run s g) ∙ ap₂ ◌&&◌ (figures_none s g) (run_none s g)
 
@@ -118,12 +115,8 @@ pub shape-none : (W : List ℤ) (s : Shape) → is_none (of_shape W s) ≡ shape
 shape-none W s =
     after true (ltb 0 s.n) _ _ refl ∙ after (ltb 0 s.n) (ltb 0 s.p) _ _ refl ∙ last (ltb 0 s.n && ltb 0 s.p) (eqb (length W) (words_of s)) _ refl
 
--- the last two clauses, by the turn
-pub run-idle : (s : Shape) (g : View) → turn g ≡ 0 → of_run s g ≡ none
-run-idle s g e = rw e
-
 -- ---- all of it, where the list is long enough for a head and where it is not
-pub too_few : (L : Layout) (W : List ℤ) → leb heads (length W) ≡ false → first_failing L W ≡ fails 1 0 0 (pos 0)
+pub too_few : (L : Layout) (W : List ℤ) → leb heads (length W) ≡ false → first_failing L W ≡ fails Heads 0 0 (pos 0)
 unfolding first_failing
 too_few L W e = rw e
 
@@ -144,5 +137,5 @@ none_on_sound L W = go (leb heads (length W)) refl
     go false e = ap is_none (too_few L W e) ∙ sym (not-sized places_ok L W (λ n. omega (arith, leb-false heads (length W) e)))
 
 -- what the answer says of the words
-pub answered : (L : Layout) (W : List ℤ) {r : Failing} → r ≡ first_failing L W → (r ≡ first_failing L W) × (is_none r ≡ sound L W)
+pub answered : (L : Layout) (W : List ℤ) {r : Option Failing} → r ≡ first_failing L W → (r ≡ first_failing L W) × (is_none r ≡ sound L W)
 answered L W e = (e, ap is_none e ∙ none_on_sound L W)

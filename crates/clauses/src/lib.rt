@@ -2,7 +2,7 @@
 // wrote the words can be told what to mend.
 #![tactic(auto)]
 
-ghost use Rattle.std.specs.Prelude.{◌≡◌, true, ◌<◌, ◌≤◌, length};
+ghost use Rattle.std.specs.Prelude.{◌≡◌, true, ◌<◌, ◌≤◌, ◌+◌, length, pos};
 ghost use Rattle.whole.specs.Number as N;
 ghost use Rattle.whole.specs.Counting.{all, sum};
 ghost use Rattle.places.specs.Place.{get, heads, lots};
@@ -11,245 +11,185 @@ ghost use Rattle.places.specs.ByAccount.{by_account};
 ghost use Rattle.places.specs.Act.{most_accounts, most_products};
 ghost use Rattle.soundness.specs.Sound as S;
 ghost use Rattle.clauses.specs.Clauses as F;
+ghost use Rattle.clauses.specs.Clauses.{FirstOf};
+ghost use Rattle.clauses.specs.declared.Clause as Clause;
 
 use places::Shape;
 use rules::Account;
 
-pub mod numbers;
+// The clauses, by their numbers in docs/RULES.md (3.3). They are tested in this order, those of one product, account or position together.
+#[derive(Clone, Copy, PartialEq, Eq)]
+pub enum Clause {
+    // The list:
+    Heads = 1,
+    Accounts = 2,
+    Products = 3,
+    Length = 4,
+    // the head:
+    House = 5,
+    Phase = 6,
+    // a product:
+    ProductKind = 7,
+    Mark = 8,
+    Price = 9,
+    Pair = 10,
+    // an account:
+    Kind = 11,
+    Guarantee = 12,
+    Cap = 13,
+    Margin = 14,
+    Gross = 15,
+    // a position, and a product's positions together:
+    Lots = 16,
+    Book = 17,
+    Balance = 18,
+    // a run that is on:
+    Done = 19,
+    ToCome = 20,
+}
 
 // A clause that fails, of which account and which product (0 where it is of none), and the figure that fails it: the word itself, of a balance
 // the sum of the lots, and 0 of a clause on the list's length or on several words.
-#[derive(Clone, Copy)]
+#[derive(Clone, Copy, PartialEq, Eq)]
 pub struct Failing {
-    pub clause: u64,
+    pub clause: Clause,
     pub account: usize,
     pub product: usize,
     pub figure: i64,
 }
 
-fn fails(clause: u64, account: usize, product: usize, figure: i64) -> Failing
+fn fails(clause: Clause, account: usize, product: usize, figure: i64) -> Option<Failing>
     ensures { result ≡ F.fails clause account product figure }
 {
-    Failing {
+    Some(Failing {
         clause,
         account,
         product,
         figure,
+    })
+}
+
+// The first that fails of of(0), of(1), .. of(n - 1). It is a loop, since `find_map` of a range asks that `of` may be called at any index.
+fn first_of<F: Fn(usize) -> Option<Failing>>(n: usize, of: F) -> Option<Failing>
+    requires { (i : _) → i < n → F.pre of i }
+    ensures { FirstOf n (F.post of) result }
+{
+    for i in 0..n {
+        if let Some(f) = of(i) {
+            return Some(f);
+        }
     }
-}
-
-fn none() -> Failing
-    ensures { result ≡ F.none }
-{
-    fails(numbers::NONE, 0, 0, 0)
-}
-
-fn is_none(f: Failing) -> bool
-    ensures { result ≡ F.is_none f }
-{
-    let clause = f.clause;
-    clause == numbers::NONE
-}
-
-// What fails later, where a test is passed.
-fn unless(ok: bool, f: Failing, later: Failing) -> Failing
-    ensures { result ≡ N.unless ok f later }
-{
-    if ok { later } else { f }
-}
-
-fn or_else(f: Failing, later: Failing) -> Failing
-    ensures { result ≡ F.or_else f later }
-{
-    if is_none(f) { later } else { f }
+    None
 }
 
 // ---- the list and its head
 
-fn of_shape(words: &[i64], s: Shape) -> Failing
+fn of_shape(words: &[i64], s: Shape) -> Option<Failing>
     requires n_le_most_accounts { (s.n ≤ most_accounts) × (s.p ≤ most_products) }
     requires heads_in_bounds { heads ≤ length words.now }
     ensures { result ≡ F.of_shape words.now s }
 {
-    let n = s.n;
-    let p = s.p;
-    let length = unless(
-        words.len() == places::words_of(s),
-        fails(numbers::LENGTH, 0, 0, 0),
-        none(),
-    );
-    let products = unless(
-        0 < p,
-        fails(numbers::PRODUCTS, 0, 0, words[places::PRODUCTS]),
-        length,
-    );
-    unless(
-        0 < n,
-        fails(numbers::ACCOUNTS, 0, 0, words[places::ACCOUNTS]),
-        products,
-    )
+    if s.n == 0 {
+        return fails(Clause::Accounts, 0, 0, words[places::ACCOUNTS]);
+    }
+    if s.p == 0 {
+        return fails(Clause::Products, 0, 0, words[places::PRODUCTS]);
+    }
+    if words.len() != places::words_of(s) {
+        return fails(Clause::Length, 0, 0, 0);
+    }
+    None
 }
 
-fn of_head(words: &[i64], s: Shape) -> Failing
+fn of_head(words: &[i64], s: Shape) -> Option<Failing>
     requires { Sized s words.now }
     ensures { result ≡ F.of_head s (get by_account s words.now) }
 {
-    let n = s.n;
     let house = places::head_word(words, s, places::HOUSE);
+    if !whole::within(house, rules::sizes::MOST_HOUSE) {
+        return fails(Clause::House, 0, 0, house);
+    }
     let phase = places::head_word(words, s, places::PHASE);
-    let last = unless(
-        whole::between(phase, 0, (n + 1) as i64),
-        fails(numbers::PHASE, 0, 0, phase),
-        none(),
-    );
-    unless(
-        whole::within(house, rules::sizes::MOST_HOUSE),
-        fails(numbers::HOUSE, 0, 0, house),
-        last,
-    )
+    if !(0..=s.n as i64 + 1).contains(&phase) {
+        return fails(Clause::Phase, 0, 0, phase);
+    }
+    None
 }
 
-// ---- products
+// ---- a product
 
-fn of_product(words: &[i64], s: Shape, j: usize) -> Failing
+fn of_product(words: &[i64], s: Shape, j: usize) -> Option<Failing>
     requires sized { Sized s words.now }
     requires j_lt_p { j < s.p }
     ensures { result ≡ F.of_product (get by_account s words.now) j }
 {
     let kind = places::prod_word(words, s, j, places::PRODUCT_KIND);
-    let mark = places::prod_word(words, s, j, places::FLOOR_MARK);
-    let price = places::prod_word(words, s, j, places::PRICE);
-    let most = rules::products::most_price(kind);
-    let pair = soundness::products::pair_ok(words, s, j);
-    let last = unless(pair, fails(numbers::PAIR, 0, j, 0), none());
-    let third = unless(
-        whole::between(price, 1, most),
-        fails(numbers::PRICE, 0, j, price),
-        last,
-    );
-    let second = unless(
-        whole::between(mark, 0, 1),
-        fails(numbers::MARK, 0, j, mark),
-        third,
-    );
-    unless(
-        whole::between(kind, 0, 1),
-        fails(numbers::PRODUCT_KIND, 0, j, kind),
-        second,
-    )
-}
-
-fn first_product(words: &[i64], s: Shape) -> Failing
-    requires { Sized s words.now }
-    ensures { result ≡ F.first_of s.p (F.of_product (get by_account s words.now)) }
-{
-    let p = s.p;
-    let mut f = none();
-    let mut j = 0;
-    while j < p {
-        f = of_product(words, s, j);
-        if !is_none(f) {
-            return f;
-        }
-        j += 1;
+    if !(0..=1).contains(&kind) {
+        return fails(Clause::ProductKind, 0, j, kind);
     }
-    f
+    let mark = places::prod_word(words, s, j, places::FLOOR_MARK);
+    if !(0..=1).contains(&mark) {
+        return fails(Clause::Mark, 0, j, mark);
+    }
+    let price = places::prod_word(words, s, j, places::PRICE);
+    if !(1..=rules::products::most_price(kind)).contains(&price) {
+        return fails(Clause::Price, 0, j, price);
+    }
+    if !soundness::products::pair_ok(words, s, j) {
+        return fails(Clause::Pair, 0, j, 0);
+    }
+    None
 }
 
-// ---- accounts
+// ---- an account
 
-fn of_account(account: Account, a: usize) -> Failing
+fn of_account(account: Account, a: usize) -> Option<Failing>
     ensures { result ≡ F.of_account account a }
 {
-    let kind = account.kind;
-    let guarantee = account.guarantee;
-    let cap = account.cap;
-    let margin = account.margin;
     let limit = rules::accounts::guarantee_limit(account);
-    let last = unless(
-        rules::accounts::gross_ok(account),
-        fails(numbers::GROSS, a, 0, 0),
-        none(),
-    );
-    let fourth = unless(
-        whole::between(margin, 0, rules::sizes::MOST_MARGIN),
-        fails(numbers::MARGIN, a, 0, margin),
-        last,
-    );
-    let third = unless(
-        whole::between(cap, 0, limit),
-        fails(numbers::CAP, a, 0, cap),
-        fourth,
-    );
-    let second = unless(
-        whole::between(guarantee, 0, limit),
-        fails(numbers::GUARANTEE, a, 0, guarantee),
-        third,
-    );
-    unless(
-        whole::between(kind, 0, 1),
-        fails(numbers::KIND, a, 0, kind),
-        second,
-    )
-}
-
-fn first_account(words: &[i64], s: Shape) -> Failing
-    requires { Sized s words.now }
-    ensures { result ≡ F.first_of s.n (λ a. F.of_account (S.account_at (get by_account s words.now) a) a) }
-{
-    let n = s.n;
-    let mut f = none();
-    let mut a = 0;
-    while a < n {
-        let account = soundness::account_at(words, s, a);
-        f = of_account(account, a);
-        if !is_none(f) {
-            return f;
-        }
-        a += 1;
+    if !(0..=1).contains(&account.kind) {
+        return fails(Clause::Kind, a, 0, account.kind);
     }
-    f
+    if !(0..=limit).contains(&account.guarantee) {
+        return fails(Clause::Guarantee, a, 0, account.guarantee);
+    }
+    if !(0..=limit).contains(&account.cap) {
+        return fails(Clause::Cap, a, 0, account.cap);
+    }
+    if !(0..=rules::sizes::MOST_MARGIN).contains(&account.margin) {
+        return fails(Clause::Margin, a, 0, account.margin);
+    }
+    if !rules::accounts::gross_ok(account) {
+        return fails(Clause::Gross, a, 0, 0);
+    }
+    None
 }
 
-// ---- positions
+// ---- the positions in a product
 
-fn of_position(words: &[i64], s: Shape, j: usize, a: usize) -> Failing
+fn of_position(words: &[i64], s: Shape, j: usize, a: usize) -> Option<Failing>
     requires sized { Sized s words.now }
     requires j_lt_p { (j < s.p) × (a < s.n) }
     ensures { result ≡ F.of_position (get by_account s words.now) j a }
 {
-    let kind = places::prod_word(words, s, j, places::PRODUCT_KIND);
     let lots = places::held_word(words, s, a, j, places::LOTS);
+    if !whole::within(lots, rules::sizes::MOST_LOTS as u64) {
+        return fails(Clause::Lots, a, j, lots);
+    }
+    let kind = places::prod_word(words, s, j, places::PRODUCT_KIND);
     let book = places::held_word(words, s, a, j, places::BOOK);
-    let most = rules::products::most_book(kind);
-    let last = unless(
-        whole::within(book, most),
-        fails(numbers::BOOK, a, j, book),
-        none(),
-    );
-    unless(
-        whole::within(lots, rules::sizes::MOST_LOTS as u64),
-        fails(numbers::LOTS, a, j, lots),
-        last,
-    )
+    if !whole::within(book, rules::products::most_book(kind)) {
+        return fails(Clause::Book, a, j, book);
+    }
+    None
 }
 
-fn first_position(words: &[i64], s: Shape, j: usize) -> Failing
+fn first_position(words: &[i64], s: Shape, j: usize) -> Option<Failing>
     requires sized { Sized s words.now }
     requires j_lt_p { j < s.p }
     ensures { result ≡ F.first_of s.n (F.of_position (get by_account s words.now) j) }
 {
-    let n = s.n;
-    let mut f = none();
-    let mut a = 0;
-    while a < n {
-        f = of_position(words, s, j, a);
-        if !is_none(f) {
-            return f;
-        }
-        a += 1;
-    }
-    f
+    first_of(s.n, |a| of_position(words, s, j, a))
 }
 
 // The sum of the lots in the product j, where each is in range.
@@ -259,134 +199,99 @@ fn lots_sum(words: &[i64], s: Shape, j: usize) -> i64
     requires j_value { all s.n (S.held_ok (get by_account s words.now) j) ≡ true }
     ensures { result ≡ sum s.n (λ a. get by_account s words.now (lots a j)) }
 {
-    let n = s.n;
     let mut sum: i64 = 0;
-    let mut a = 0;
-    while a < n {
+    for a in 0..s.n {
         sum += places::held_word(words, s, a, j, places::LOTS);
-        a += 1;
     }
     sum
 }
 
-fn of_positions(words: &[i64], s: Shape, j: usize) -> Failing
+// Where each of the lots is in range.
+fn of_balance(words: &[i64], s: Shape, j: usize) -> Option<Failing>
+    requires sized { Sized s words.now }
+    requires j_lt_p { j < s.p }
+    requires j_value { all s.n (S.held_ok (get by_account s words.now) j) ≡ true }
+    ensures { result ≡ F.of_balance s.n (get by_account s words.now) j }
+{
+    let sum = lots_sum(words, s, j);
+    if sum != 0 {
+        return fails(Clause::Balance, 0, j, sum);
+    }
+    None
+}
+
+#[tactic(auto, using(crate::proofs::ClauseLaws::held_where_none))]
+fn of_positions(words: &[i64], s: Shape, j: usize) -> Option<Failing>
     requires sized { Sized s words.now }
     requires j_lt_p { j < s.p }
     ensures { result ≡ F.of_positions s.n (get by_account s words.now) j }
 {
-    let f = first_position(words, s, j);
-    if !is_none(f) {
-        return f;
-    }
-    let sum = lots_sum(words, s, j);
-    unless(
-        whole::between(sum, 0, 0),
-        fails(numbers::BALANCE, 0, j, sum),
-        none(),
-    )
-}
-
-fn first_positions(words: &[i64], s: Shape) -> Failing
-    requires { Sized s words.now }
-    ensures { result ≡ F.first_of s.p (F.of_positions s.n (get by_account s words.now)) }
-{
-    let p = s.p;
-    let mut f = none();
-    let mut j = 0;
-    while j < p {
-        f = of_positions(words, s, j);
-        if !is_none(f) {
-            return f;
-        }
-        j += 1;
-    }
-    f
+    first_position(words, s, j).or_else(|| of_balance(words, s, j))
 }
 
 // ---- the run, and all of it
 
-fn of_done(words: &[i64], s: Shape, a: usize) -> Failing
+fn of_done(words: &[i64], s: Shape, a: usize) -> Option<Failing>
     requires sized { Sized s words.now }
     requires a_lt_n { a < s.n }
     ensures { result ≡ F.of_done (get by_account s words.now) a }
 {
     let due = places::acct_word(words, s, a, places::FIRST_DUE);
-    unless(
-        whole::between(due, 0, 0),
-        fails(numbers::DONE, a, 0, due),
-        none(),
-    )
-}
-
-// Of the first `done` accounts.
-fn first_done(words: &[i64], s: Shape, done: usize) -> Failing
-    requires sized { Sized s words.now }
-    requires done_le_n { done ≤ s.n }
-    ensures { result ≡ F.first_of done (F.of_done (get by_account s words.now)) }
-{
-    let mut f = none();
-    let mut a = 0;
-    while a < done {
-        f = of_done(words, s, a);
-        if !is_none(f) {
-            return f;
-        }
-        a += 1;
+    if due != 0 {
+        return fails(Clause::Done, a, 0, due);
     }
-    f
+    None
 }
 
-fn of_run(words: &[i64], s: Shape) -> Failing
+// Of a run whose turn is at `done` and one more.
+fn of_to_come(words: &[i64], s: Shape, done: usize) -> Option<Failing>
+    requires sized { Sized s words.now }
+    requires words_value { S.figures_ok s (get by_account s words.now) ≡ true }
+    requires turn_value { S.turn (get by_account s words.now) ≡ done + 1 }
+    ensures { result ≡ N.unless (S.to_come_ok s (get by_account s words.now)) (F.fails Clause.ToCome 0 0 (pos 0)) F.none }
+{
+    let house = places::head_word(words, s, places::HOUSE);
+    if !soundness::run::stays(words, s, house, done) {
+        return fails(Clause::ToCome, 0, 0, 0);
+    }
+    None
+}
+
+fn of_run(words: &[i64], s: Shape) -> Option<Failing>
     requires sized { Sized s words.now }
     requires words_value { S.figures_ok s (get by_account s words.now) ≡ true }
     ensures { result ≡ F.of_run s (get by_account s words.now) }
 {
-    let turn = whole::nat_abs(places::head_word(words, s, places::PHASE)) as usize;
-    if turn < 1 {
-        return none();
-    }
-    let f = first_done(words, s, turn - 1);
-    if !is_none(f) {
-        return f;
-    }
-    let house = places::head_word(words, s, places::HOUSE);
-    let to_come = soundness::run::stays(words, s, house, turn - 1);
-    unless(to_come, fails(numbers::TO_COME, 0, 0, 0), none())
+    let turn = places::head_word(words, s, places::PHASE).unsigned_abs() as usize;
+    let done = turn.checked_sub(1)?;
+    first_of(done, |a| of_done(words, s, a)).or_else(|| of_to_come(words, s, done))
 }
 
-fn of_figures(words: &[i64], s: Shape) -> Failing
+fn of_figures(words: &[i64], s: Shape) -> Option<Failing>
     requires { Sized s words.now }
     ensures { result ≡ F.of_figures s (get by_account s words.now) }
 {
-    let head = of_head(words, s);
-    let product = first_product(words, s);
-    let account = first_account(words, s);
-    let position = first_positions(words, s);
-    or_else(or_else(or_else(head, product), account), position)
+    of_head(words, s)
+        .or_else(|| first_of(s.p, |j| of_product(words, s, j)))
+        .or_else(|| first_of(s.n, |a| of_account(soundness::account_at(words, s, a), a)))
+        .or_else(|| first_of(s.p, |j| of_positions(words, s, j)))
 }
 
-fn of_places(words: &[i64], s: Shape) -> Failing
+#[tactic(auto, using(crate::proofs::ClauseLaws::figures_where_none))]
+fn of_places(words: &[i64], s: Shape) -> Option<Failing>
     requires { Sized s words.now }
     ensures { result ≡ F.of_places s (get by_account s words.now) }
 {
-    let f = of_figures(words, s);
-    if !is_none(f) {
-        return f;
-    }
-    of_run(words, s)
+    of_figures(words, s).or_else(|| of_run(words, s))
 }
 
-// The clause that any words fail first; `NONE` exactly where they are a sound ledger.
-pub fn first_failing(words: &[i64]) -> Failing
+// The clause that any words fail first; none exactly where they are a sound ledger.
+pub fn first_failing(words: &[i64]) -> Option<Failing>
     ensures { (result ≡ F.first_failing by_account words.now) × (F.is_none result ≡ S.sound by_account words.now) }
 {
     if words.len() < places::HEADS {
-        return fails(numbers::HEADS, 0, 0, 0);
+        return fails(Clause::Heads, 0, 0, 0);
     }
     let s = soundness::shape_of(words);
-    let f = of_shape(words, s);
-    if !is_none(f) {
-        return f;
-    }
-    of_places(words, s)
+    of_shape(words, s).or_else(|| of_places(words, s))
 }

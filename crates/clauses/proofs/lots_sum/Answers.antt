@@ -40,15 +40,13 @@ module _ (W : List ℤ) (s : Shape) (j a t : ℕ) (v : ℤ) (few : a + 1 ≤ 64)
 pub overflow_add-sum : goal.overflow_add-sum
 overflow_add-sum c =
     let x = c.held_word-sum in
-    fits c.args.words.now c.args.s c.args.j c.loop-a.a c.loop-a.sum-bits x.result (omega (arith, c.requires.sized.few)) (omega arith) c.requires.j_value c.loop-a.invariant.1
+    fits c.args.words.now c.args.s c.args.j c.loop-a.a c.loop-a.sum-bits x.result (omega (arith, c.requires.sized.few)) (omega arith) c.requires.j_value c.loop-a.invariant
     (came x.result x.type_inv x.ensures)
 
 pub loop-a-preserved : goal.loop-a-preserved
 loop-a-preserved c =
     let x = c.held_word-sum in
     let few : c.loop-a.a + 1 ≤ 64 = omega (arith, c.requires.sized.few) in
-    let e = came x.result x.type_inv x.ensures in (
-      omega arith,
-      arg (fits c.args.words.now c.args.s c.args.j c.loop-a.a c.loop-a.sum-bits x.result few (omega arith) c.requires.j_value c.loop-a.invariant.1 e)
-          ∙ next_is c.args.words.now c.args.s c.args.j c.loop-a.a c.loop-a.sum-bits x.result few (omega arith) c.requires.j_value c.loop-a.invariant.1 e,
-    )
+    let e = came x.result x.type_inv x.ensures in
+    arg (fits c.args.words.now c.args.s c.args.j c.loop-a.a c.loop-a.sum-bits x.result few (omega arith) c.requires.j_value c.loop-a.invariant e)
+    ∙ next_is c.args.words.now c.args.s c.args.j c.loop-a.a c.loop-a.sum-bits x.result few (omega arith) c.requires.j_value c.loop-a.invariant e

@@ -1,5 +1,5 @@
--- `sum` is the sum of the lots of the accounts before a, each in range, so that no sum passes 64 bits.
-use Prim.Native.Nat.{ℕ, ◌-◌, ◌≤◌}
+-- `sum` is the sum of the lots of the accounts before a.
+use Prim.Native.Nat.{ℕ}
 use mathlib.Core.Path.{◌≡◌}
 use mathlib.Core.List.{List}
 use lib.IntN.{ℤ}
@@ -13,7 +13,4 @@ abbrev pub lotsOf : List ℤ → Shape → ℕ → ℕ → ℤ
 lotsOf W s j a = get by_account s W (lots a j)
 
 abbrev pub invariant-loop-a : goal.invariant-loop-a
-invariant-loop-a l = (l.a ≤ l.n) × (l.sum ≡ Counting.sum l.a (lotsOf l.words l.s l.j))
-
-abbrev pub decreases-loop-a : goal.decreases-loop-a
-decreases-loop-a l = l.n - l.a
+invariant-loop-a l = l.sum ≡ Counting.sum l.a (lotsOf l.words l.s l.j)
