@@ -244,6 +244,7 @@ fn of_done(words: &[i64], s: Shape, a: usize) -> Option<Failing>
 }
 
 // Of a run whose turn is at `done` and one more.
+#[tactic(auto, using(soundness::specs::SoundLaws::dues_in, soundness::specs::SoundLaws::records_in))]
 fn of_to_come(words: &[i64], s: Shape, done: usize) -> Option<Failing>
     requires sized { Sized s words.now }
     requires words_value { S.figures_ok s (get by_account s words.now) ≡ true }
