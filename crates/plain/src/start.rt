@@ -6,14 +6,14 @@ ghost use Rattle.dayfile.specs.InsideDayfile.{Modest};
 ghost use Rattle.dayfile.specs.Table.{ledger_shape};
 
 use super::{bodies, ranges, sections};
-use clauses::Failing;
+use clauses::{Clause, Failing};
 use dayfile::Contents;
 use faults::{figures, say};
 use places::Shape;
 use rules::sizes;
 
-// The clause, by way of words that are all 0.
-fn failing_in(text: &[u8], c: Contents, words: &mut [i64]) -> Failing
+// What fails first, by way of words that are all 0.
+fn failing_in(text: &[u8], c: Contents, words: &mut [i64]) -> Option<Failing>
     requires { (Modest c) × (words.old ≡ replicate (words_of (ledger_shape c)) (pos 0)) }
 {
     dayfile::bodies_into(text, c, words);
@@ -21,7 +21,7 @@ fn failing_in(text: &[u8], c: Contents, words: &mut [i64]) -> Failing
 }
 
 // The same, by way of words for the largest ledger.
-fn failing_by(text: &[u8], words: &mut [i64]) -> Failing
+fn failing_by(text: &[u8], words: &mut [i64]) -> Option<Failing>
     requires { words.old ≡ replicate most_words (pos 0) }
 {
     let c = dayfile::read_contents(text);
@@ -58,114 +58,98 @@ fn tell_size(line: usize, k: usize, name: &[u8], figure: i64, most: u64, out: &m
 }
 
 // A product's mark, price, or the two that a cross names.
-fn tell_product(text: &[u8], line: usize, clause: u64, figure: i64, out: &mut [u8]) -> usize {
-    if clause == clauses::numbers::MARK {
-        return tell_range(line, 1, b"the floor mark", figure, 0, 1, out);
+fn tell_product(text: &[u8], line: usize, f: Failing, out: &mut [u8]) -> usize {
+    match f.clause {
+        Clause::Mark => tell_range(line, 1, b"the floor mark", f.figure, 0, 1, out),
+        Clause::Price => {
+            let a = figures::say_where(line, 2, out);
+            ranges::say_price(out, a, ranges::kind_at(text, line), f.figure)
+        }
+        _ => {
+            let counts = [line];
+            say::form(
+                out,
+                0,
+                b"line #: a cross names two different yen products of lower number, its principal's and its quote's",
+                &counts,
+                0,
+            )
+        }
     }
-    if clause == clauses::numbers::PRICE {
-        let a = figures::say_where(line, 2, out);
-        return ranges::say_price(out, a, ranges::kind_at(text, line), figure);
-    }
-    let counts = [line];
-    say::form(
-        out,
-        0,
-        b"line #: a cross names two different yen products of lower number, its principal's and its quote's",
-        &counts,
-        0,
-    )
 }
 
 // A guarantee or cap: an L has none.
-fn tell_guarantee(text: &[u8], line: usize, clause: u64, figure: i64, out: &mut [u8]) -> usize {
+fn tell_guarantee(text: &[u8], line: usize, f: Failing, out: &mut [u8]) -> usize {
     let at = super::line_start(text, line);
     if lines::word_at(text, at, b"L") {
         let counts = [line];
         return say::form(out, 0, b"line #: an L has guarantee and cap 0", &counts, 0);
     }
-    if clause == clauses::numbers::CAP {
-        return tell_range(
-            line,
-            3,
-            b"the cap",
-            figure,
-            0,
-            sizes::MOST_GUARANTEE as u64,
-            out,
-        );
+    let most = sizes::MOST_GUARANTEE as u64;
+    match f.clause {
+        Clause::Cap => tell_range(line, 3, b"the cap", f.figure, 0, most, out),
+        _ => tell_range(line, 2, b"the guarantee", f.figure, 0, most, out),
     }
-    tell_range(
-        line,
-        2,
-        b"the guarantee",
-        figure,
-        0,
-        sizes::MOST_GUARANTEE as u64,
-        out,
-    )
 }
 
 // An account's guarantee, cap, initial margin or gross.
-fn tell_account(text: &[u8], line: usize, clause: u64, figure: i64, out: &mut [u8]) -> usize {
-    if clause == clauses::numbers::MARGIN {
-        return tell_range(
+fn tell_account(text: &[u8], line: usize, f: Failing, out: &mut [u8]) -> usize {
+    match f.clause {
+        Clause::Margin => tell_range(
             line,
             4,
             b"the initial margin",
-            figure,
+            f.figure,
             0,
             sizes::MOST_MARGIN as u64,
             out,
-        );
+        ),
+        Clause::Gross => {
+            let counts = [line, sizes::MOST_GROSS as usize];
+            say::form(
+                out,
+                0,
+                b"line #: cash and the three dues, each without its sign, add to more than #",
+                &counts,
+                0,
+            )
+        }
+        _ => tell_guarantee(text, line, f, out),
     }
-    if clause == clauses::numbers::GROSS {
-        let counts = [line, sizes::MOST_GROSS as usize];
-        return say::form(
-            out,
-            0,
-            b"line #: cash and the three dues, each without its sign, add to more than #",
-            &counts,
-            0,
-        );
-    }
-    tell_guarantee(text, line, clause, figure, out)
 }
 
 // A position's lots or book, by its line and its product's.
-fn tell_position(
-    text: &[u8],
-    line: usize,
-    of: usize,
-    clause: u64,
-    figure: i64,
-    out: &mut [u8],
-) -> usize {
-    if clause == clauses::numbers::LOTS {
-        return tell_size(
+fn tell_position(text: &[u8], line: usize, of: usize, f: Failing, out: &mut [u8]) -> usize {
+    match f.clause {
+        Clause::Lots => tell_size(
             line,
             3,
             b"the number of lots",
-            figure,
+            f.figure,
             sizes::MOST_LOTS as u64,
             out,
-        );
+        ),
+        _ => {
+            let most = rules::products::most_book(ranges::kind_at(text, of));
+            tell_size(line, 4, b"the book", f.figure, most, out)
+        }
     }
-    let most = rules::products::most_book(ranges::kind_at(text, of));
-    tell_size(line, 4, b"the book", figure, most, out)
 }
 
-// A product whose lots do not add to zero, or what no day file states.
-fn tell_other(product: usize, clause: u64, sum: i64, out: &mut [u8]) -> usize {
-    if clause == clauses::numbers::BALANCE {
-        let counts = [product];
-        return say::form(
-            out,
-            0,
-            b"product #: its lots add to @ over the accounts, not 0",
-            &counts,
-            sum,
-        );
-    }
+// A product whose lots do not add to zero.
+fn tell_balance(f: Failing, out: &mut [u8]) -> usize {
+    let counts = [f.product];
+    say::form(
+        out,
+        0,
+        b"product #: its lots add to @ over the accounts, not 0",
+        &counts,
+        f.figure,
+    )
+}
+
+// What no day file states.
+fn tell_other(out: &mut [u8]) -> usize {
     say::word(out, 0, b"the ledger that the text states is not sound")
 }
 
@@ -178,30 +162,23 @@ fn tell_failing(
     position: usize,
     out: &mut [u8],
 ) -> usize {
-    let clause = f.clause;
-    let figure = f.figure;
-    if clause < clauses::numbers::MARK {
-        return tell_other(0, clause, figure, out);
+    match f.clause {
+        Clause::Mark | Clause::Price | Clause::Pair => tell_product(text, product, f, out),
+        Clause::Guarantee | Clause::Cap | Clause::Margin | Clause::Gross => {
+            tell_account(text, account, f, out)
+        }
+        Clause::Lots | Clause::Book => tell_position(text, position, product, f, out),
+        Clause::Balance => tell_balance(f, out),
+        _ => tell_other(out),
     }
-    if clause == clauses::numbers::KIND {
-        return tell_other(0, clause, figure, out);
-    }
-    if clause < clauses::numbers::KIND {
-        return tell_product(text, product, clause, figure, out);
-    }
-    if clause < clauses::numbers::LOTS {
-        return tell_account(text, account, clause, figure, out);
-    }
-    if clause < clauses::numbers::BALANCE {
-        return tell_position(text, position, product, clause, figure, out);
-    }
-    tell_other(f.product, clause, figure, out)
 }
 
 // What is not sound, of a text whose lines are good.
 pub fn tell(text: &[u8], out: &mut [u8]) -> usize {
     let mut words = [0i64; places::MOST_WORDS];
-    let f = failing_by(text, &mut words);
+    let Some(f) = failing_by(text, &mut words) else {
+        return tell_other(out);
+    };
     let c = dayfile::read_contents(text);
     let p = c.products;
     let n = c.accounts;
