@@ -1,357 +1,268 @@
 // The events of a history: 32 of them, four transfers among them, the last of which is the last event. An event is drawn by the history's
-// number and its own, never kept; its answer stands in four words of a list.
+// number and its own, never kept; its answer stands in a list.
 ghost use Rattle.std.specs.Prelude.{◌≤◌};
 
-use crate::chance;
+use crate::chance::Chance;
+use rules::{Reply, Standing};
 
-pub const EARLY: u64 = 0;
+pub const EVENTS: usize = 32;
 
-pub const RUN: u64 = 1;
+const LAST: u64 = 31;
 
-pub const LATE: u64 = 2;
-
-pub const IDLE: u64 = 3;
-
-const EVENTS: u64 = 32;
-
-const TRANSFER: u64 = 10;
-
-const BEGIN: u64 = 8;
-
-const CLOSE: u64 = 9;
-
-const TRADE: u64 = 6;
-
-// What is asked, the account that is named, and two figures.
-#[derive(Clone, Copy)]
-pub struct Event {
-    pub kind: u64,
-    pub account: i64,
-    pub one: i64,
-    pub two: i64,
+// The stretches of a run: the requests before an account's transfer, the transfers, the requests after it, the attempts to begin or close.
+#[derive(Clone, Copy, PartialEq, Eq)]
+pub enum Stretch {
+    Early,
+    Run,
+    Late,
+    Idle,
 }
 
+// What is asked, of which account and with which figures.
 #[derive(Clone, Copy)]
+enum Event {
+    Deposit {
+        account: i64,
+        amount: i64,
+    },
+    Withdraw {
+        account: i64,
+        amount: i64,
+    },
+    Guarantee {
+        account: i64,
+        guarantee: i64,
+        cap: i64,
+    },
+    Question {
+        account: i64,
+    },
+    // With the next account, of up to some lots in a product that may not be there.
+    Trade {
+        account: i64,
+        product: i64,
+        lots: i64,
+    },
+    Begin,
+    // Its lists are too short in every other history.
+    Close {
+        short: bool,
+    },
+    Transfer,
+}
+
+#[derive(Clone, Copy, PartialEq, Eq)]
 pub struct Answer {
-    pub number: u64,
-    pub one: i64,
-    pub two: i64,
-    pub three: i64,
+    number: u64,
+    figures: [i64; 3],
 }
+
+pub const NOT_ASKED: Answer = Answer {
+    number: 0,
+    figures: [0, 0, 0],
+};
+
+impl From<Reply> for Answer {
+    fn from(reply: Reply) -> Answer {
+        Answer {
+            number: reply.number,
+            figures: [reply.figure, 0, 0],
+        }
+    }
+}
+
+impl From<Standing> for Answer {
+    fn from(standing: Standing) -> Answer {
+        Answer {
+            number: standing.number,
+            figures: [standing.limit, standing.first, standing.second],
+        }
+    }
+}
+
+// ---- an event
 
 // Whether the event i is a transfer: one in each of the first three eights, and the last.
 fn is_transfer(seed: u64, i: u64) -> bool {
-    if i == 31 {
-        return true;
+    match i {
+        LAST => true,
+        24.. => false,
+        _ => {
+            let eight = Chance {
+                seed,
+                event: 1000 + i / 8,
+            };
+            eight.draw(0) % 8 == i % 8
+        }
     }
-    if 23 < i {
-        return false;
-    }
-    chance::draw(seed, 1000 + i / 8, 0) % 8 == i % 8
 }
 
 // An amount: ordinary, or at and past the ends of its range.
-fn amount(seed: u64, i: u64, turn: u64) -> i64 {
-    let c = chance::draw(seed, i, turn) % 12;
-    if c == 0 {
-        return 0;
+fn amount(chance: Chance, turn: u64) -> i64 {
+    match chance.draw(turn) % 12 {
+        0 => 0,
+        1 => 1000000000000,
+        2 => 1000000000001,
+        3 => -1,
+        _ => chance.drawn(turn % 16 + 1, 1, 700000),
     }
-    if c == 1 {
-        return 1000000000000;
-    }
-    if c == 2 {
-        return 1000000000001;
-    }
-    if c == 3 {
-        return -1;
-    }
-    chance::drawn(seed, i, turn % 16 + 1, 1, 700000)
 }
 
 fn event_of(seed: u64, i: u64) -> Event {
     if is_transfer(seed, i) {
-        return Event {
-            kind: TRANSFER,
-            account: 0,
-            one: 0,
-            two: 0,
-        };
+        return Event::Transfer;
     }
-    let kind = chance::draw(seed, i, 1) % 10;
-    let account = chance::drawn(seed, i, 2, -1, 6);
-    let one = amount(seed, i, 3);
-    let two = amount(seed, i, 6);
-    Event {
-        kind: kind,
-        account: account,
-        one: one,
-        two: two,
-    }
-}
-
-fn answered(reply: rules::Reply) -> Answer {
-    let n = reply.number;
-    let f = reply.figure;
-    Answer {
-        number: n,
-        one: f,
-        two: 0,
-        three: 0,
-    }
-}
-
-fn ask(words: &[i64], account: i64) -> Answer {
-    let came = ledger::question(words, account);
-    let n = came.number;
-    let l = came.limit;
-    let f = came.first;
-    let s = came.second;
-    Answer {
-        number: n,
-        one: l,
-        two: f,
-        three: s,
+    let chance = Chance { seed, event: i };
+    let account = chance.drawn(2, -1, 6);
+    let one = amount(chance, 3);
+    let two = amount(chance, 6);
+    match chance.draw(1) % 10 {
+        0 | 1 => Event::Deposit {
+            account,
+            amount: one,
+        },
+        2 | 3 => Event::Withdraw {
+            account,
+            amount: one,
+        },
+        4 => Event::Guarantee {
+            account,
+            guarantee: one,
+            cap: two,
+        },
+        5 => Event::Question { account },
+        6 | 7 => Event::Trade {
+            account,
+            product: two % 5,
+            lots: one % 1500,
+        },
+        8 => Event::Begin,
+        _ => Event::Close {
+            short: one % 2 == 0,
+        },
     }
 }
 
-// A close whose lists are too short in every other history.
-fn close(words: &mut [i64], one: i64) -> Answer {
-    let prices: [i64; 3] = [1500000, 1600000, 10850];
-    let rates: [i64; 3] = [300, 300, 300];
-    let lags: [i64; 3] = [0, 1, 2];
-    let short: [i64; 2] = [0, 1];
-    if one % 2 == 0 {
-        return answered(closing::close(words, &prices, &rates, &rates, &short));
-    }
-    answered(closing::close(words, &prices, &rates, &rates, &lags))
+// ---- what it does
+
+fn close(words: &mut [i64], short: bool) -> Answer {
+    let prices = [1500000, 1600000, 10850];
+    let rates = [300, 300, 300];
+    let lags = [0, 1, 2];
+    let given = if short { 2 } else { 3 };
+    closing::close(words, &prices, &rates, &rates, &lags[..given]).into()
 }
 
-// A trade with the next account, of up to some lots in a product that may not be there.
-fn trade(words: &mut [i64], account: i64, one: i64, two: i64) -> Answer {
-    if account < -1 {
-        return ask(words, account);
+fn trade(words: &mut [i64], account: i64, product: i64, lots: i64) -> Answer {
+    if !(-1..=9).contains(&account) {
+        return ledger::question(words, account).into();
     }
-    if 9 < account {
-        return ask(words, account);
-    }
-    answered(ledger::trade(words, account, account + 1, two % 5, one % 1500, 10850))
-}
-
-fn one_account(words: &mut [i64], kind: u64, account: i64, one: i64, two: i64) -> Answer {
-    if kind < 2 {
-        return answered(ledger::deposit(words, account, one));
-    }
-    if kind < 4 {
-        return answered(ledger::withdraw(words, account, one));
-    }
-    if kind < 5 {
-        return answered(ledger::guarantee(words, account, one, two));
-    }
-    ask(words, account)
+    ledger::trade(words, account, account + 1, product, lots, 10850).into()
 }
 
 fn done(words: &mut [i64], event: Event) -> Answer {
-    let kind = event.kind;
-    let account = event.account;
-    let one = event.one;
-    let two = event.two;
-    if kind == TRANSFER {
-        return answered(ledger::step(words));
+    match event {
+        Event::Deposit { account, amount } => ledger::deposit(words, account, amount).into(),
+        Event::Withdraw { account, amount } => ledger::withdraw(words, account, amount).into(),
+        Event::Guarantee {
+            account,
+            guarantee,
+            cap,
+        } => ledger::guarantee(words, account, guarantee, cap).into(),
+        Event::Question { account } => ledger::question(words, account).into(),
+        Event::Trade {
+            account,
+            product,
+            lots,
+        } => trade(words, account, product, lots),
+        Event::Begin => ledger::begin(words).into(),
+        Event::Close { short } => close(words, short),
+        Event::Transfer => ledger::step(words).into(),
     }
-    if kind == BEGIN {
-        return answered(ledger::begin(words));
-    }
-    if kind == CLOSE {
-        return close(words, one);
-    }
-    if kind < TRADE {
-        return one_account(words, kind, account, one, two);
-    }
-    trade(words, account, one, two)
 }
 
 // The stretch of an event in the phase `turn`.
-fn judge(event: Event, turn: u64) -> u64 {
-    let kind = event.kind;
-    let account = event.account;
-    if kind == TRANSFER {
-        return RUN;
+fn judge(event: Event, turn: u64) -> Stretch {
+    match event {
+        Event::Transfer => Stretch::Run,
+        Event::Begin | Event::Close { .. } => Stretch::Idle,
+        Event::Trade { .. } => Stretch::Late,
+        Event::Deposit { account, .. } => waits(account, turn),
+        Event::Withdraw { account, .. } => waits(account, turn),
+        Event::Guarantee { account, .. } => waits(account, turn),
+        Event::Question { account } => waits(account, turn),
     }
-    if kind == BEGIN {
-        return IDLE;
-    }
-    if kind == CLOSE {
-        return IDLE;
-    }
-    if kind < TRADE {
-        return waits(account, turn);
-    }
-    LATE
 }
 
 // Early where the account is one of the four and has not had its transfer.
-fn waits(account: i64, turn: u64) -> u64 {
-    if account < 0 {
-        return LATE;
+fn waits(account: i64, turn: u64) -> Stretch {
+    match whole::index_of(account, 4) {
+        Some(a) if turn <= a as u64 + 1 => Stretch::Early,
+        _ => Stretch::Late,
     }
-    if 3 < account {
-        return LATE;
-    }
-    if whole::nat_abs(account) % 8 + 1 < turn {
-        return LATE;
-    }
-    EARLY
-}
-
-// ---- answers in a list, four words each
-
-fn keep(answers: &mut [i64], i: u64, answer: Answer) {
-    if 31 < i {
-        return;
-    }
-    let at = (i * 4) as usize;
-    if answers.len() < at + 4 {
-        return;
-    }
-    let n = answer.number;
-    let a = answer.one;
-    let b = answer.two;
-    let c = answer.three;
-    answers[at] = (n % 1024) as i64;
-    answers[at + 1] = a;
-    answers[at + 2] = b;
-    answers[at + 3] = c;
-}
-
-// How many of the four words differ from the answer.
-fn unlike(answers: &[i64], i: u64, answer: Answer) -> u64
-    ensures { result ≤ 4 }
-{
-    if 31 < i {
-        return 1;
-    }
-    let at = (i * 4) as usize;
-    if answers.len() < at + 4 {
-        return 1;
-    }
-    let n = (answer.number % 1024) as i64;
-    let a = answer.one;
-    let b = answer.two;
-    let c = answer.three;
-    tally::differ(answers[at], n)
-        + tally::differ(answers[at + 1], a)
-        + tally::differ(answers[at + 2], b)
-        + tally::differ(answers[at + 3], c)
 }
 
 // ---- the history as it came, a stretch of it, its attempts
 
 // The phase after the event.
 fn turn_after(event: Event, turn: u64) -> u64 {
-    let kind = event.kind;
-    if kind == TRANSFER {
-        return turn % 64 + 1;
-    }
-    turn
-}
-
-pub fn mixture(words: &mut [i64], answers: &mut [i64], seed: u64) {
-    let mut i: u64 = 0;
-    while i < EVENTS {
-        let answer = done(words, event_of(seed, i));
-        keep(answers, i, answer);
-        i += 1;
+    match event {
+        Event::Transfer => turn % 64 + 1,
+        _ => turn,
     }
 }
 
-// The event i, done where it is of the stretch: how many words of its answer differ from those of the mixture.
-fn compared(words: &mut [i64], answers: &[i64], seed: u64, i: u64, which: u64, turn: u64) -> u64
-    ensures { result ≤ 4 }
-{
-    let event = event_of(seed, i);
-    if judge(event, turn) != which {
-        return 0;
+pub fn mixture(words: &mut [i64], answers: &mut [Answer], seed: u64) {
+    for (i, answer) in answers.iter_mut().enumerate() {
+        *answer = done(words, event_of(seed, i as u64));
     }
-    unlike(answers, i, done(words, event))
 }
 
-// The events of one stretch, in their order: how many words of their answers differ from those of the mixture. There are at most 4 of each of 32 events:
-// the remainder by 1,024 takes nothing away.
-pub fn stretch(words: &mut [i64], answers: &[i64], seed: u64, which: u64) -> u64 {
-    let mut count: u64 = 0;
-    let mut turn: u64 = 1;
-    let mut i: u64 = 0;
-    while i < EVENTS {
-        count = count % 1024 + compared(words, answers, seed, i, which, turn);
-        turn = turn_after(event_of(seed, i), turn);
-        i += 1;
+// The events of one stretch, done in their order: whether an answer differs from that of the mixture.
+pub fn stretch_differs(words: &mut [i64], answers: &[Answer], seed: u64, which: Stretch) -> bool {
+    let mut differs = false;
+    let mut turn = 1;
+    for (i, answer) in answers.iter().enumerate() {
+        let event = event_of(seed, i as u64);
+        if judge(event, turn) == which && done(words, event) != *answer {
+            differs = true;
+        }
+        turn = turn_after(event, turn);
     }
-    count
+    differs
 }
 
 // What an attempt in the run is to be answered: begin 7, close 7, or 2 with a list too short.
-fn refusal(event: Event) -> Answer {
-    let kind = event.kind;
-    let one = event.one;
-    let mut number: u64 = 7;
-    if kind == CLOSE {
-        if one % 2 == 0 {
-            number = 2;
-        }
-    }
-    Answer {
-        number: number,
-        one: 0,
-        two: 0,
-        three: 0,
-    }
+fn refusal(event: Event) -> Option<Answer> {
+    let number = match event {
+        Event::Begin => 7,
+        Event::Close { short } => { if short { 2 } else { 7 } }
+        _ => return None,
+    };
+    Some(Answer {
+        number,
+        figures: [0, 0, 0],
+    })
 }
 
-fn attempt(answers: &[i64], seed: u64, i: u64) -> u64
-    ensures { result ≤ 4 }
-{
-    let event = event_of(seed, i);
-    if judge(event, 1) != IDLE {
-        return 0;
-    }
-    unlike(answers, i, refusal(event))
-}
-
-pub fn attempts(answers: &[i64], seed: u64) -> u64 {
-    let mut count: u64 = 0;
-    let mut i: u64 = 0;
-    while i < EVENTS {
-        count = count % 1024 + attempt(answers, seed, i);
-        i += 1;
-    }
-    count
-}
-
-fn is_of(seed: u64, i: u64, which: u64, turn: u64) -> u64
-    ensures { result ≤ 1 }
-{
-    if judge(event_of(seed, i), turn) == which {
-        1
-    } else {
-        0
-    }
+// Whether an attempt was answered otherwise.
+pub fn attempts_differ(answers: &[Answer], seed: u64) -> bool {
+    answers.iter().enumerate().any(|(i, answer)| refusal(event_of(seed, i as u64)).is_some_and(|r| r
+        != *answer))
 }
 
 // How many events a history has of a stretch.
-pub fn of_stretch(seed: u64, which: u64) -> u64 {
-    let mut count: u64 = 0;
-    let mut turn: u64 = 1;
-    let mut i: u64 = 0;
-    while i < EVENTS {
-        count = count % 1024 + is_of(seed, i, which, turn);
-        turn = turn_after(event_of(seed, i), turn);
-        i += 1;
+pub fn of_stretch(seed: u64, which: Stretch) -> u64
+    ensures { result ≤ 32 }
+{
+    let mut count = 0;
+    let mut turn = 1;
+    for i in 0..EVENTS as u64 {
+        let event = event_of(seed, i);
+        if judge(event, turn) == which {
+            count += 1;
+        }
+        turn = turn_after(event, turn);
     }
     count
-}
-
-// ---- words
-
-pub fn unsound(words: &[i64]) -> u64 {
-    if soundness::sound(words) { 0 } else { 1 }
 }

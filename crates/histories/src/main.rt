@@ -3,6 +3,9 @@
 // differences there were, and how many events of each stretch.
 #![tactic(auto)]
 
+ghost use Rattle.std.specs.Prelude.{◌≤◌};
+
+use events::Stretch;
 use std::io;
 
 mod chance;
@@ -11,59 +14,44 @@ mod start;
 
 const HISTORIES: u64 = 4000;
 
-fn text(rt: &impl Print, bytes: &[u8]) -> io::Result<()> {
-    rt.write_all(bytes)
-}
-
-fn show(rt: &impl Print, name: &[u8], count: u64) -> io::Result<()> {
-    text(rt, name)?;
-    rt.print(count)?;
-    text(rt, b"\n")
-}
-
 // In how many respects a history as it came and in three stretches differs, 0 to 6: the start's soundness, the answers of each stretch and of the
 // attempts, the words at the end.
-fn differences(seed: u64) -> u64 {
-    let mut words = [0i64; 75];
-    start::write(&mut words, seed);
+fn differences(seed: u64) -> u64
+    ensures { result ≤ 6 }
+{
+    let mut words = start::words(seed);
     let mut again = words;
-    let mut answers = [0i64; 128];
-    let bad = events::unsound(&words);
+    let mut answers = [events::NOT_ASKED; events::EVENTS];
+    let unsound = !soundness::sound(&words);
     events::mixture(&mut words, &mut answers, seed);
-    let early = events::stretch(&mut again, &answers, seed, events::EARLY);
-    let run = events::stretch(&mut again, &answers, seed, events::RUN);
-    let late = events::stretch(&mut again, &answers, seed, events::LATE);
-    let idle = events::attempts(&answers, seed);
-    let moved = tally::altered(&words, &again);
-    tally::some(bad)
-        + tally::some(early)
-        + tally::some(run)
-        + tally::some(late)
-        + tally::some(idle)
-        + tally::some(moved)
+    let early = events::stretch_differs(&mut again, &answers, seed, Stretch::Early);
+    let run = events::stretch_differs(&mut again, &answers, seed, Stretch::Run);
+    let late = events::stretch_differs(&mut again, &answers, seed, Stretch::Late);
+    let idle = events::attempts_differ(&answers, seed);
+    let told = [unsound, early, run, late, idle]
+        .iter()
+        .filter(|differs| **differs)
+        .count();
+    told as u64 + tally::some(tally::altered(&words, &again))
 }
 
-fn total(which: u64) -> u64 {
-    let mut sum: u64 = 0;
-    let mut seed: u64 = 0;
-    while seed < HISTORIES {
-        sum += events::of_stretch(seed, which) % 64;
-        seed += 1;
+fn total(which: Stretch) -> u64 {
+    let mut sum = 0;
+    for seed in 0..HISTORIES {
+        sum += events::of_stretch(seed, which);
     }
     sum
 }
 
 fn main(rt: HostRuntime) -> io::Result<()> {
-    let mut sum: u64 = 0;
-    let mut seed: u64 = 0;
-    while seed < HISTORIES {
-        sum += differences(seed) % 1024;
-        seed += 1;
+    let mut sum = 0;
+    for seed in 0..HISTORIES {
+        sum += differences(seed);
     }
-    show(&rt, b"histories: ", HISTORIES)?;
-    show(&rt, b"early requests: ", total(events::EARLY))?;
-    show(&rt, b"transfers: ", total(events::RUN))?;
-    show(&rt, b"late requests: ", total(events::LATE))?;
-    show(&rt, b"attempts to begin or close: ", total(events::IDLE))?;
-    show(&rt, b"differences: ", sum)
+    println!(rt; "histories: {HISTORIES}")?;
+    println!(rt; "early requests: {}", total(Stretch::Early))?;
+    println!(rt; "transfers: {}", total(Stretch::Run))?;
+    println!(rt; "late requests: {}", total(Stretch::Late))?;
+    println!(rt; "attempts to begin or close: {}", total(Stretch::Idle))?;
+    println!(rt; "differences: {sum}")
 }

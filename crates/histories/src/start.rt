@@ -1,90 +1,56 @@
 // A sound ledger of four accounts and three products in phase 1, drawn by the history's number. Every eighth has an account close to the end
 // of its gross.
-use crate::chance;
+use crate::chance::Chance;
 
-fn put(words: &mut [i64], i: usize, v: i64) {
-    if i < words.len() {
-        words[i] = v;
+pub const WORDS: usize = 75;
+
+// Two yen products and a cross of them, each in its five words.
+const PRODUCTS: [i64; 15] = [0, 0, 1500000, 0, 0, 0, 0, 1600000, 0, 0, 1, 0, 10850, 1, 0];
+
+fn head(seed: u64) -> [i64; 4] {
+    let chance = Chance { seed, event: 0 };
+    [4, 3, 1, chance.drawn(0, -1000000, 2000000)]
+}
+
+// The cash of the account k: close to 10^15 in every eighth history, for one of its accounts.
+fn cash_of(chance: Chance, k: u64) -> i64 {
+    if chance.seed % 8 == 0 && k == 1 {
+        return chance.drawn(1, 999999999000000, 100000);
     }
+    chance.drawn(1, -400000, 2000000)
 }
 
-// A product in its five words.
-fn product(words: &mut [i64], at: usize, kind: i64, price: i64, principal: i64) {
-    if 64 < at {
-        return;
+// The record of the account k, counted from 1: the odd are brokers, with a guarantee and a cap, the even are providers.
+fn account(seed: u64, k: u64) -> [i64; 8] {
+    let chance = Chance { seed, event: k };
+    let broker = k % 2 == 1;
+    [
+        i64::from(!broker),
+        cash_of(chance, k),
+        if broker {
+            chance.drawn(2, 0, 1000000)
+        } else {
+            0
+        },
+        if broker {
+            chance.drawn(3, 0, 1000000)
+        } else {
+            0
+        },
+        chance.drawn(4, 0, 500000),
+        chance.drawn(5, -300000, 600000),
+        chance.drawn(6, -300000, 600000),
+        chance.drawn(7, -300000, 600000),
+    ]
+}
+
+pub fn words(seed: u64) -> [i64; WORDS] {
+    let mut words = [0; WORDS];
+    words[..4].copy_from_slice(&head(seed));
+    words[4..19].copy_from_slice(&PRODUCTS);
+    for k in 0..4 {
+        let at = 19 + 14 * k;
+        words[at..at + 8].copy_from_slice(&account(seed, k as u64 + 1));
     }
-    put(words, at, kind);
-    put(words, at + 1, 0);
-    put(words, at + 2, price);
-    put(words, at + 3, principal);
-}
-
-fn head(words: &mut [i64], seed: u64) {
-    put(words, 0, 4);
-    put(words, 1, 3);
-    put(words, 2, 1);
-    put(words, 3, chance::drawn(seed, 0, 0, -1000000, 2000000));
-}
-
-fn dues(words: &mut [i64], seed: u64, at: usize, k: u64) {
-    if 64 < at {
-        return;
-    }
-    put(words, at + 5, chance::drawn(seed, k, 5, -300000, 600000));
-    put(words, at + 6, chance::drawn(seed, k, 6, -300000, 600000));
-    put(words, at + 7, chance::drawn(seed, k, 7, -300000, 600000));
-}
-
-// The cash of an account: close to 10^15 in every eighth history, for one of its accounts.
-fn cash_of(seed: u64, k: u64) -> i64 {
-    if seed % 8 == 0 {
-        if k == 1 {
-            return chance::drawn(seed, k, 1, 999999999000000, 100000);
-        }
-    }
-    chance::drawn(seed, k, 1, -400000, 2000000)
-}
-
-fn account(words: &mut [i64], seed: u64, at: usize, k: u64, kind: i64) {
-    if 64 < at {
-        return;
-    }
-    put(words, at, kind);
-    put(words, at + 1, cash_of(seed, k));
-    put(words, at + 4, chance::drawn(seed, k, 4, 0, 500000));
-    dues(words, seed, at, k);
-}
-
-// A broker's guarantee and cap.
-fn letter(words: &mut [i64], seed: u64, at: usize, k: u64) {
-    if 64 < at {
-        return;
-    }
-    put(words, at + 2, chance::drawn(seed, k, 2, 0, 1000000));
-    put(words, at + 3, chance::drawn(seed, k, 3, 0, 1000000));
-}
-
-fn products(words: &mut [i64]) {
-    product(words, 4, 0, 1500000, 0);
-    product(words, 9, 0, 1600000, 0);
-    product(words, 14, 1, 10850, 1);
-}
-
-fn brokers(words: &mut [i64], seed: u64) {
-    account(words, seed, 19, 1, 0);
-    letter(words, seed, 19, 1);
-    account(words, seed, 47, 3, 0);
-    letter(words, seed, 47, 3);
-}
-
-fn providers(words: &mut [i64], seed: u64) {
-    account(words, seed, 33, 2, 1);
-    account(words, seed, 61, 4, 1);
-}
-
-pub fn write(words: &mut [i64], seed: u64) {
-    head(words, seed);
-    products(words);
-    brokers(words, seed);
-    providers(words, seed);
+    words
 }

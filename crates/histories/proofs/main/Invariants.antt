@@ -1,9 +1,6 @@
--- `main` is safe: at most 4,000 histories. Assumes nothing.
-use Rattle.std.specs.Prelude.{◌-◌, ◌*◌, ◌≤◌}
+-- `main` is safe: at most 6 of each of 4,000 histories. Assumes nothing.
+use Rattle.std.specs.Prelude.{◌*◌, ◌≤◌}
 use Rattle.histories.proofs.main.Given as goal
 
 abbrev pub invariant-loop-seed : goal.invariant-loop-seed
-invariant-loop-seed l = (l.seed ≤ 4000) × (l.sum ≤ 1024 * l.seed)
-
-abbrev pub decreases-loop-seed : goal.decreases-loop-seed
-decreases-loop-seed l = 4000 - l.seed
+invariant-loop-seed l = l.sum ≤ 6 * l.seed
