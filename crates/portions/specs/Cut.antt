@@ -1,16 +1,22 @@
 -- Who gets a yen, said by the last who does: a member gets one unless the last owner comes before him. The last owner is found by looking at the
 -- members in turn, between the last owner found so far and the largest remainder found to get none. Assumes nothing.
-use Rattle.std.specs.Prelude.{◌≡◌, refl, Bool, true, false, not, ℕ, zero, suc, ◌+◌, ◌-◌, ◌≤◌, ◌<◌, ltb}
-use Rattle.std.proofs.Common.{sym, eq-or-lt_of_le}
+use Rattle.std.specs.Prelude.{◌≡◌, refl, Bool, true, false, cond, not, List, ℕ, zero, suc, ◌+◌, ◌-◌, ◌≤◌, ◌<◌, ltb, length, take, drop, count_by}
+use Rattle.std.proofs.Common.{sym, ap, ◌∙◌, eq-or-lt_of_le}
+use Rattle.std.proofs.lemmas.List.{take_all}
+use Rattle.std.proofs.lemmas.List.Sums.{sum_by_more, sum_by-take-drop}
 use Rattle.std.proofs.Math.Logic.{inl, inr, ⊎_elim}
 use Rattle.std.proofs.Math.Numerals.{add-one}
 use native.Mathlib.Omega.{arith}
 use borrow.Author.Tests.{lt-ltb, le-ltb, ltb-true, ltb-false}
-use Rattle.whole.specs.Counting.{total, how_many, one_if}
+use Rattle.whole.specs.Counting.{total, how_many, one_if, listed}
 use Rattle.whole.specs.CountingLaws.{total-same}
 use Rattle.whole.specs.Tests.{true_or_false, is_false, clash, below-or-last}
-use Rattle.portions.specs.Share.{comes_before, before, how_many_before}
+use Rattle.portions.specs.Share.{comes_before, before, how_many_before, remainder_of, of_member}
 use Rattle.portions.specs.Order.{Comes, comes_true, is_comes, is-before, comes_trans, not-before_self, not_after, many_before-lt}
+
+-- every member's remainder, where somebody has a weight
+abbrev pub remainders_of : ℕ → List ℕ → List ℕ
+remainders_of amount weights = listed (length weights) (remainder_of (length weights) (of_member weights) amount)
 
 -- member j with the remainder x parts the owners of the `yen` from the other members
 pub record Cuts (n : ℕ) (r : ℕ → ℕ) (yen x j : ℕ) : Type 0 where
@@ -107,10 +113,19 @@ module _ {n : ℕ} {r : ℕ → ℕ} {yen : ℕ} where
 unfoldable pub many_above : ℕ → (ℕ → ℕ) → ℕ → ℕ
 many_above to r x = how_many to (λ j. ltb x (r j))
 
--- a loop's turn: the next member is counted
-pub above_step : (j : ℕ) (r : ℕ → ℕ) (x from many v : ℕ) → from + many ≡ many_above j r x → v ≡ one_if (ltb x (r j)) → from + (many + v) ≡ many_above (j + 1) r x
+-- a count of the first k remainders of a list, and one of all others
+pub many_listed : (x : ℕ) (l : List ℕ) (k : ℕ) → k ≤ length l → count_by (ltb x) (take k l) ≡ many_above k (of_member l) x
 unfolding many_above
-above_step j r x from many v e q = rw add-one (omega arith)
+many_listed x l zero h = refl
+many_listed x l (suc k) h =
+    rw add-one at (sum_by_more (λ y. cond (ltb x y) 1 0) l k 0 (omega arith)) ∙ ap (λ z. z + one_if (ltb x (of_member l k))) (many_listed x l k (omega arith))
+
+pub many_others : (x : ℕ) (l : List ℕ) (k : ℕ) → k ≤ length l → many_above k (of_member l) x + count_by (ltb x) (drop k l) ≡ many_above (length l) (of_member l) x
+many_others x l k h =
+    ap (λ z. z + count_by (ltb x) (drop k l)) (sym (many_listed x l k h))
+    ∙ sum_by-take-drop (λ y. cond (ltb x y) 1 0) l k
+    ∙ ap (count_by (ltb x)) (sym (take_all (length l) l (omega arith)))
+    ∙ many_listed x l (length l) (omega arith)
 
 -- two sums that differ only below c
 total-from : (c n : ℕ) (f g : ℕ → ℕ) → c ≤ n → ((j : ℕ) → c ≤ j → f j ≡ g j) → total c g + total n f ≡ total c f + total n g
@@ -146,7 +161,7 @@ module _ (n : ℕ) (r : ℕ → ℕ) (i : ℕ) where
       (λ e. is-before r j i (inl (ltb-true (r i) (r j) e)))
 
   -- so these two counts are of those who come before i
-  pub before-is : i < n → 0 < r i → (a b : ℕ) → many_above 0 r (r i - 1) + a ≡ many_above i r (r i - 1) → many_above i r (r i) + b ≡ many_above n r (r i) →
+  pub before-is : i < n → 0 < r i → (a b : ℕ) → a ≡ many_above i r (r i - 1) → many_above i r (r i) + b ≡ many_above n r (r i) →
       a + b ≡ how_many_before n r i
   unfolding many_above how_many_before
   before-is l p a b e f =

@@ -1,29 +1,25 @@
 -- What is kept of an amount and a sum so that amount × weight / sum takes one division for each weight. Words for contracts inside this crate: no
 -- reader of the shares needs them.
-use Rattle.std.specs.Prelude.{◌≡◌, refl, Bool, true, false, cond, ◌&&◌, ℕ, ◌+◌, ◌*◌, ◌/◌, ◌%◌, ◌^◌, ◌≤◌, ◌<◌, leb}
-use Rattle.std.proofs.Common.{sym, ap, div-add-mod', mod-lt, mul-le-mul, le_of_mul-le-mul_right, arith, leb-true}
+use Rattle.std.specs.Prelude.{◌≡◌, Option, Some, None, cond, ◌&&◌, ℕ, ◌+◌, ◌*◌, ◌/◌, ◌%◌, ◌^◌, ◌≤◌, ◌<◌, leb}
+use Rattle.std.proofs.Common.{sym, ap, subst, div-add-mod', mod-lt, mul-le-mul, le_of_mul-le-mul_right, arith, leb-true}
 use Rattle.std.proofs.Math.Arith.{digits_div, digits_mod}
-use Rattle.whole.specs.Signs.{false_true}
+use Rattle.std.proofs.lemmas.Option.{cond_some}
+use Rattle.whole.specs.Tests.{both}
 use Rattle.portions.specs.declared.divide.Ready.{Ready}
 
 -- 2^15 and 2^30 times the amount, divided by the sum
 abbrev pub divided : ℕ → ℕ → Ready
 divided amount sum =
     record {
-      narrow = true;
       quotient15 = amount * 2 ^ 15 / sum;
       remainder15 = amount * 2 ^ 15 % sum;
       quotient30 = amount * 2 ^ 30 / sum;
       remainder30 = amount * 2 ^ 30 % sum;
     }
 
--- nothing divided: four zeros
-abbrev pub undivided : Ready
-undivided = record { narrow = false; quotient15 = 0; remainder15 = 0; quotient30 = 0; remainder30 = 0 }
-
 -- the ratio is narrow where the amount is at most the sum and the sum at most 2^46; where it is not, nothing is divided
-unfoldable pub ratio_of : ℕ → ℕ → Ready
-ratio_of amount sum = cond (leb amount sum && leb sum (2 ^ 46)) (divided amount sum) undivided
+unfoldable pub ratio_of : ℕ → ℕ → Option Ready
+ratio_of amount sum = cond (leb amount sum && leb sum (2 ^ 46)) (Some (divided amount sum)) None
 
 -- what the four numbers of a narrow ratio are good for
 pub record Ratio (amount sum q15 r15 q30 r30 : ℕ) : Type 0 where
@@ -49,16 +45,13 @@ divided_ratio amount sum part narrow some =
     }
 
 -- a narrow one has a `Ratio`
-pub ratio_narrow : (amount sum : ℕ) → 0 < sum
-    → let r = ratio_of amount sum in r.narrow ≡ true → Ratio amount sum r.quotient15 r.remainder15 r.quotient30 r.remainder30
+pub ratio_narrow : (amount sum : ℕ) (r : Ready) → 0 < sum → ratio_of amount sum ≡ Some r → Ratio amount sum r.quotient15 r.remainder15 r.quotient30 r.remainder30
 unfolding ratio_of
-ratio_narrow amount sum some = go (leb amount sum) (leb sum (2 ^ 46)) refl refl
-  where
-    go : (s t : Bool) → leb amount sum ≡ s → leb sum (2 ^ 46) ≡ t
-        → let r = cond (s && t) (divided amount sum) undivided in r.narrow ≡ true → Ratio amount sum r.quotient15 r.remainder15 r.quotient30 r.remainder30
-    go true true p q e = divided_ratio amount sum (leb-true amount sum p) (leb-true sum (2 ^ 46) q) some
-    go true false p q e = absurd (false_true e)
-    go false t p q e = absurd (false_true e)
+ratio_narrow amount sum r some e =
+    let h = cond_some (leb amount sum && leb sum (2 ^ 46)) (divided amount sum) r e in
+    let t = both (leb amount sum) (leb sum (2 ^ 46)) h.0 in
+    subst (λ z. Ratio amount sum z.quotient15 z.remainder15 z.quotient30 z.remainder30) h.1
+    (divided_ratio amount sum (leb-true amount sum t.0) (leb-true sum (2 ^ 46) t.1) some)
 
 module _ {amount sum q15 r15 q30 r30 : ℕ} (r : Ratio amount sum q15 r15 q30 r30) where
   pub once-most : q15 ≤ 2 ^ 15

@@ -1,6 +1,5 @@
 -- `give_all` meets its contract: the words passed are the weights, which fit. Assumes nothing.
 use mathlib.Core.Path.{◌∙◌}
-use Prim.Native.Nat.{zero-le}
 use native.Mathlib.Omega.{arith}
 use lib.IntN.{pos}
 use lib.ListN.{length-set}
@@ -12,15 +11,13 @@ use mir.ValLaws.{to_z_pos}
 use Rattle.portions.proofs.give_all.Goals as goal
 
 pub loop-i-init : goal.loop-i-init
-loop-i-init c = let a = c.args in (zero-le, c.requires.fact_2, filled_none (λ k. pos (of_member a.weights.now k)) a.out.now)
+loop-i-init c = let a = c.args in (c.requires.fact_2, filled_none (λ k. pos (of_member a.weights.now k)) a.out.now)
 
 pub loop-i-preserved : goal.loop-i-preserved
 loop-i-preserved c =
-    let s = c in
-    let w = of_member s.args.weights.now in
+    let w = of_member c.args.weights.now in
     let l = c.loop-i in
     let x = w l.i in (
-      omega arith,
-      length-set l.out l.i (to_z w64 x) ∙ l.invariant.1,
-      filled-step l.i (λ k. pos (w k)) s.args.out.now l.out (to_z w64 x) l.invariant.2 (omega arith) (to_z_pos w64 x (omega (arith, s.requires.fact_1.small l.i))),
+      length-set l.out l.i (to_z w64 x) ∙ l.invariant.0,
+      filled-step l.i (λ k. pos (w k)) c.args.out.now l.out (to_z w64 x) l.invariant.1 (omega arith) (to_z_pos w64 x (omega (arith, c.requires.fact_1.small l.i))),
     )

@@ -1,6 +1,5 @@
 -- `give_all` meets its contract: the words passed are the weights, which fit. Assumes nothing.
 use mathlib.Core.Path.{◌≡◌}
-use Prim.Native.Nat.{◌-◌, ◌≤◌}
 use lib.IntN.{pos}
 use lib.ListN.{length}
 use Rattle.whole.specs.Listed.{filled}
@@ -8,7 +7,4 @@ use Rattle.portions.specs.Share.{of_member}
 use Rattle.portions.proofs.give_all.Given as goal
 
 abbrev pub invariant-loop-i : goal.invariant-loop-i
-invariant-loop-i l = (l.i ≤ length l.weights) × (length l.out ≡ length l.weights) × (l.out ≡ filled l.i (λ k. pos (of_member l.weights k)) l.initial.out)
-
-abbrev pub decreases-loop-i : goal.decreases-loop-i
-decreases-loop-i l = length l.weights - l.i
+invariant-loop-i l = (length l.out ≡ length l.weights) × (l.out ≡ filled l.i (λ k. pos (of_member l.weights k)) l.initial.out)

@@ -1,40 +1,69 @@
 -- `hand_out` meets its contract: the members passed have their yen. Assumes nothing.
 use mathlib.Core.Path.{◌≡◌, refl, ap, ◌∙◌}
-use Prim.Native.Nat.{zero-le}
+use mathlib.Core.Bool.{Bool, true, false, not}
+use Prim.Native.Nat.{◌≤◌}
 use native.Mathlib.Omega.{arith}
-use lib.IntN.{pos}
+use lib.IntN.{ℤ, pos, nat_abs, ◌+ℤ◌}
 use lib.ListN.{get_or, length-set}
 use mir.Syntax.{w64}
-use mir.Val.{to_z, of_z}
+use mir.Val.{to_z, of_z, bool_byte, SFits}
+use Rattle.whole.specs.Counting.{one_if}
 use Rattle.whole.specs.Listed.{filled_none, filled_next, filled-step}
-use Rattle.whole.specs.Signs.{came}
+use Rattle.whole.specs.Signs.{arg}
 use Rattle.whole.specs.Reps.{reads}
+use Rattle.whole.specs.Whole.{whole, facts, by}
+use Rattle.portions.specs.Bounds.{most_amount}
+use Rattle.portions.specs.Share.{of_member, comes_before}
 use Rattle.portions.proofs.hand_out.Invariants.{after}
-use Rattle.portions.proofs.hand_out.Goals.{In-loop-i}
+use Rattle.portions.proofs.hand_out.Goals.{In-loop-number, After-from}
 use Rattle.portions.proofs.hand_out.Goals as goal
 
-pub loop-i-init : goal.loop-i-init
-loop-i-init c = let a = c.args in (zero-le, refl, filled_none (after a.last a.owner a.remainders.now a.out.now) a.out.now)
+pub loop-number-init : goal.loop-number-init
+loop-number-init c = let a = c.args in (refl, filled_none (after a.last.remainder a.last.number a.remainders.now a.out.now) a.out.now)
 
 -- the word that is read is as it was
-same : (c : In-loop-i) → to_z w64 (of_z w64 (get_or c.loop-i.out c.loop-i.i (pos 0))) ≡ get_or c.args.out.now c.loop-i.i (pos 0)
+same : (c : In-loop-number) → to_z w64 (of_z w64 (get_or c.loop-number.out c.loop-number.number (pos 0))) ≡ get_or c.args.out.now c.loop-number.number (pos 0)
 same c =
     let a = c.args in
     let o = a.out.now in
-    let l = c.loop-i in
-    let w : get_or l.out l.i (pos 0) ≡ get_or o l.i (pos 0) = ap (λ x. get_or x l.i (pos 0)) l.invariant.2 ∙ filled_next l.i (after a.last a.owner a.remainders.now o) o (pos 0) (omega arith) in
-    rw w (reads c.requires.fact_2 tt l.i)
+    let l = c.loop-number in
+    let w : get_or l.out l.number (pos 0) ≡ get_or o l.number (pos 0) =
+    ap (λ x. get_or x l.number (pos 0)) l.invariant.1 ∙ filled_next l.number (after a.last.remainder a.last.number a.remainders.now o) o (pos 0) (omega arith)
+    in
+    rw w (reads c.requires.fact_2 tt l.number)
 
-pub with_yen-requires : goal.with_yen-requires
-with_yen-requires c = let d = c in rw (same (goal.at.with_yen-requires d).In-loop-i) (d.requires.fact_2.at d.loop-i.i)
+-- a test as a word is what is counted
+counted : (t : Bool) → to_z w64 (of_z w64 (pos (bool_byte t))) ≡ pos (one_if t)
+counted true = refl
+counted false = refl
 
-pub loop-i-preserved : goal.loop-i-preserved
-loop-i-preserved c =
-    let d = c in
-    let a = d.args in
-    let l = d.loop-i in
+-- what is added to it
+yen : (c : After-from) →
+    let a = c.args in
+    let i = c.loop-number.number in
+    to_z w64 (of_z w64 c.from.result) ≡ pos (one_if (not (comes_before a.last.remainder a.last.number (of_member a.remainders.now i) i)))
+yen c = ap (λ x. to_z w64 (of_z w64 x)) (c.from.ensures ∙ ap (λ t. pos (bool_byte (not t))) c.comes_before.ensures) ∙ counted _
+
+-- and so the new word
+fits : (x : ℤ) (t : Bool) → nat_abs x ≤ most_amount → SFits w64 (x +ℤ pos (one_if t))
+fits x true h = by (search whole depth 20) (omega facts)
+fits x false h = by (search whole depth 20) (omega facts)
+
+goes : (c : After-from) → SFits w64 (to_z w64 (of_z w64 (get_or c.loop-number.out c.loop-number.number (pos 0))) +ℤ to_z w64 (of_z w64 c.from.result))
+goes c =
+    let a = c.args in
+    let i = c.loop-number.number in
+    let t = not (comes_before a.last.remainder a.last.number (of_member a.remainders.now i) i) in
+    rw (same (goal.at.After-from c).In-loop-number, yen c) (fits (get_or a.out.now i (pos 0)) t (c.requires.fact_2.at i))
+
+pub overflow_add-out : goal.overflow_add-out
+overflow_add-out c = goes (goal.at.overflow_add-out c).After-from
+
+pub loop-number-preserved : goal.loop-number-preserved
+loop-number-preserved c =
+    let a = c.args in
+    let l = c.loop-number in
     let o = a.out.now in
-    let f = after a.last a.owner a.remainders.now o in
-    let r = c.with_yen.result in
-    let e : to_z w64 (of_z w64 r) ≡ f l.i = came r c.with_yen.type_inv c.with_yen.ensures ∙ rw (same (goal.at.loop-i-preserved d).In-loop-i, c.comes_before.ensures) refl in
-    (omega arith, length-set l.out l.i (to_z w64 (of_z w64 r)) ∙ l.invariant.1, filled-step l.i f o l.out (to_z w64 (of_z w64 r)) l.invariant.2 (omega arith) e)
+    let f = after a.last.remainder a.last.number a.remainders.now o in
+    let d = (goal.at.loop-number-preserved c).After-from in
+    (length-set l.out l.number _ ∙ l.invariant.0, filled-step l.number f o l.out _ l.invariant.1 (omega arith) (arg (goes d) ∙ rw (same (goal.at.After-from d).In-loop-number, yen d) refl))

@@ -2,7 +2,7 @@
 use mathlib.Core.Path.{◌≡◌}
 use mathlib.Core.Bool.{not}
 use mathlib.Core.List.{List}
-use Prim.Native.Nat.{ℕ, ◌-◌, ◌≤◌}
+use Prim.Native.Nat.{ℕ}
 use lib.IntN.{ℤ, pos, ◌+ℤ◌}
 use lib.ListN.{length, get_or}
 use Rattle.whole.specs.Counting.{one_if}
@@ -14,8 +14,6 @@ use Rattle.portions.proofs.hand_out.Given as goal
 abbrev pub after : ℕ → ℕ → List ℕ → List ℤ → ℕ → ℤ
 after last owner remainders out k = get_or out k (pos 0) +ℤ pos (one_if (not (comes_before last owner (of_member remainders k) k)))
 
-abbrev pub invariant-loop-i : goal.invariant-loop-i
-invariant-loop-i l = (l.i ≤ length l.initial.out) × (length l.out ≡ length l.initial.out) × (l.out ≡ filled l.i (after l.last l.owner l.remainders l.initial.out) l.initial.out)
-
-abbrev pub decreases-loop-i : goal.decreases-loop-i
-decreases-loop-i l = length l.initial.out - l.i
+abbrev pub invariant-loop-number : goal.invariant-loop-number
+invariant-loop-number l =
+    (length l.out ≡ length l.initial.out) × (l.out ≡ filled l.number (after l.last.remainder l.last.number l.remainders l.initial.out) l.initial.out)

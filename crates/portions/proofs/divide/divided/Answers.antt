@@ -1,6 +1,5 @@
 -- `divided` meets its contract. Assumes nothing.
 use mathlib.Core.Path.{◌≡◌, sym, ap}
-use mathlib.Core.Bool.{true}
 use Prim.Native.Nat.{◌+◌, ◌*◌, ◌/◌, ◌%◌, ◌^◌, ◌<◌}
 use native.Mathlib.Nat.{div-add-mod', mod-lt}
 use native.Mathlib.Omega.{arith}
@@ -29,4 +28,4 @@ returns c =
     let e = both c in
     let quotient : q ≡ a.amount * 2 ^ 30 / a.sum = rw e (sym (digits_div q less)) in
     let remainder : second % a.sum ≡ a.amount * 2 ^ 30 % a.sum = rw e (sym (digits_mod q less)) in
-    λ i. record { narrow = true; quotient15 = first / a.sum; remainder15 = first % a.sum; quotient30 = quotient i; remainder30 = remainder i }
+    λ i. record { quotient15 = first / a.sum; remainder15 = first % a.sum; quotient30 = quotient i; remainder30 = remainder i }
