@@ -3,14 +3,37 @@
 
 ghost use Rattle.std.specs.Prelude.{◌≡◌};
 ghost use Rattle.shares.specs.Loss as L;
+ghost use Rattle.shares.specs.Refused.{number_of};
 
 use crate::layers::shared;
 use crate::refusals::refusal;
 use rules::Reply;
-use whole::up;
 
 mod layers;
 mod refusals;
+
+// Why a loss is not shared (document 01, "Numbers returned").
+#[derive(Clone, Copy)]
+enum Refusal {
+    // A list's length.
+    Lists,
+    // The loss.
+    Amount,
+    // A member's deposit, difference or mark.
+    OutOfRange,
+}
+
+impl Refusal {
+    fn number(self) -> u64
+        ensures { result ≡ number_of self }
+    {
+        match self {
+            Refusal::Lists => 2,
+            Refusal::Amount => 5,
+            Refusal::OutOfRange => 8,
+        }
+    }
+}
 
 // The call: what remains of the loss, with the shares of layer one in `first` and those of layer two in `second`; or a refusal, with nothing
 // written.
@@ -24,23 +47,31 @@ pub fn share_loss(
 ) -> Reply
     ensures { (result, first.new, second.new) ≡ L.loss_shared loss deposits.now differences.now marks.now first.old second.old }
 {
-    let number = refusal(
+    match refusal(
         loss,
         deposits,
         differences,
         marks,
         first.len(),
         second.len(),
-    );
-    if number != 0 {
-        return Reply {
-            number: number,
+    ) {
+        Some(refusal) => Reply {
+            number: refusal.number(),
             figure: 0,
-        };
-    }
-    let rest = shared(up(loss), deposits, differences, marks, first, second);
-    Reply {
-        number: 0,
-        figure: rest as i64,
+        },
+        None => {
+            let rest = shared(
+                loss.unsigned_abs(),
+                deposits,
+                differences,
+                marks,
+                first,
+                second,
+            );
+            Reply {
+                number: 0,
+                figure: rest as i64,
+            }
+        }
     }
 }

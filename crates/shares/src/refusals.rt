@@ -1,42 +1,24 @@
-// The refusals of loss sharing (document 01, "Numbers returned"): 2 a list's length, 5 the loss, 8 a member's deposit, difference or mark.
+// The refusals of loss sharing (document 01, "Numbers returned").
 ghost use Rattle.std.specs.Prelude.{◌≡◌, length};
 ghost use Rattle.shares.specs.Loss as L;
+ghost use Rattle.shares.specs.Refused.{number};
 
-use whole::between;
+use crate::Refusal;
 
 // Five lists of one length, 1 to 64.
 fn one_length(n: usize, differences: usize, marks: usize, first: usize, second: usize) -> bool
     ensures { result ≡ L.one_length n differences marks first second }
 {
-    if n < 1 {
-        return false;
-    }
-    if 64 < n {
-        return false;
-    }
-    if differences != n {
-        return false;
-    }
-    if marks != n {
-        return false;
-    }
-    if first != n {
-        return false;
-    }
-    second == n
+    (1..=64).contains(&n) && differences == n && marks == n && first == n && second == n
 }
 
 // A member's figures are in range, a defaulter's too.
 fn member_ok(deposit: i64, difference: i64, mark: i64) -> bool
     ensures { result ≡ L.member_ok deposit difference mark }
 {
-    if !between(deposit, 0, 1000000000000) {
-        return false;
-    }
-    if !between(difference, -1000000000000, 1000000000000) {
-        return false;
-    }
-    between(mark, 0, 1)
+    (0..=1000000000000).contains(&deposit)
+        && (-1000000000000..=1000000000000).contains(&difference)
+        && (0..=1).contains(&mark)
 }
 
 // Every member's figures are in range.
@@ -45,17 +27,11 @@ fn members_ok(deposits: &[i64], differences: &[i64], marks: &[i64]) -> bool
     requires fact_2 { length marks.now ≡ length deposits.now }
     ensures { result ≡ L.members_ok deposits.now differences.now marks.now }
 {
-    let mut i: usize = 0;
-    while i < deposits.len() {
-        if !member_ok(deposits[i], differences[i], marks[i]) {
-            return false;
-        }
-        i += 1;
-    }
-    true
+    (0..deposits.len()).all(|i| member_ok(deposits[i], differences[i], marks[i]))
 }
 
-// The number under which the call is refused, the lowest that applies; 0 where it is not.
+// The lowest refusal that applies, if one does.
+#[tactic(auto, unfolding(crate::specs::Loss::refusal))]
 pub fn refusal(
     loss: i64,
     deposits: &[i64],
@@ -63,8 +39,8 @@ pub fn refusal(
     marks: &[i64],
     first: usize,
     second: usize,
-) -> u64
-    ensures { result ≡ L.refusal loss deposits.now differences.now marks.now first second }
+) -> Option<Refusal>
+    ensures { number result ≡ L.refusal loss deposits.now differences.now marks.now first second }
 {
     if !one_length(
         deposits.len(),
@@ -73,13 +49,12 @@ pub fn refusal(
         first,
         second,
     ) {
-        return 2;
+        Some(Refusal::Lists)
+    } else if !(0..=100000000000000).contains(&loss) {
+        Some(Refusal::Amount)
+    } else if !members_ok(deposits, differences, marks) {
+        Some(Refusal::OutOfRange)
+    } else {
+        None
     }
-    if !between(loss, 0, 100000000000000) {
-        return 5;
-    }
-    if !members_ok(deposits, differences, marks) {
-        return 8;
-    }
-    0
 }

@@ -14,8 +14,8 @@ use Rattle.portions.specs.ShareLaws.{share-same}
 use Rattle.portions.specs.Bounds.{Weights, most_members, most_weight}
 use Rattle.shares.specs.Loss.{weight, layer, bears, layer_shares, most_figure}
 use Rattle.shares.specs.LossLaws.{weight-most, layer-most}
-use Rattle.shares.proofs.layers.layer.Goals.{After-least-amount}
-use Rattle.shares.proofs.layers.layer.Goals as goal
+use Rattle.shares.proofs.layers.Members.layer.Goals.{After-min-amount}
+use Rattle.shares.proofs.layers.Members.layer.Goals as goal
 
 module _ (marks figures : List ℤ) (ws : List ℕ) (e : ws ≡ listed (length figures) (weight marks figures)) where
   abbrev n : ℕ
@@ -48,20 +48,26 @@ module _ (marks figures : List ℤ) (ws : List ℕ) (e : ws ≡ listed (length f
       (λ i b. ap pos (share-same n (of_member ws) (weight marks figures) (layer most marks figures) each-weight i b)))
 
 -- how large the layer is
-amount-is : (c : After-least-amount) →
-    let s = c in
-    c.least-amount.result ≡ layer s.args.most s.args.marks.now s.args.figures.now
+amount-is : (c : After-min-amount) → let s = c.args.self in c.min-amount.result ≡ layer c.args.most s.marks.now s.figures.now
 unfolding layer
-amount-is c = c.least-amount.ensures ∙ rw c.weigh-sum.ensures.value refl
+amount-is c = c.min-amount.ensures ∙ rw c.weigh-sum.ensures.value refl
 
 pub share-requires : goal.share-requires
-share-requires c = let s = c in
+share-requires c =
+    let s = c.args.self in
     let w = c.weigh-sum.ensures in
-    let m = s.args.marks.now in
-    let f = s.args.figures.now in record { fact_1 = weights-ok m f _ w.weights_after s.requires.marks_len_4 s.requires.each_1; fact_2 = omega (arith, amount-is (goal.at.share-requires c).After-least-amount, layer-most s.args.most m f, s.requires.each_2); fact_3 = s.requires.marks_len_3 ∙ sym (sized m f _ w.weights_after); fact_4 = w.value ∙ sym (total-is m f _ w.weights_after) }
+    let m = s.marks.now in
+    let f = s.figures.now in
+    record {
+      fact_1 = weights-ok m f _ w.weights_after s.few s.in_range;
+      fact_2 = omega (arith, amount-is (goal.at.share-requires c).After-min-amount, layer-most c.args.most m f, c.requires.most_in);
+      fact_3 = c.requires.out_long ∙ sym (sized m f _ w.weights_after);
+      fact_4 = w.value ∙ sym (total-is m f _ w.weights_after);
+    }
 
 pub returns : goal.returns
-returns c = let s = c in
+returns c =
+    let s = c.args.self in
     let w = c.weigh-sum.ensures.weights_after in
-    let a = amount-is (goal.at.returns c).After-least-amount in
-    record { value = a; out_after = shares-are s.args.marks.now s.args.figures.now _ w s.args.most _ _ a c.share.ensures; weights_after = w }
+    let a = amount-is (goal.at.returns c).After-min-amount in
+    record { value = a; out_after = shares-are s.marks.now s.figures.now _ w c.args.most _ _ a c.share.ensures }
