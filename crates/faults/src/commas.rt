@@ -2,172 +2,75 @@
 // would be taken as it stands.
 ghost use Rattle.std.specs.Prelude.{◌<◌, ◌≤◌, length};
 
-use super::{figures, marks, say};
+use super::marks::Wrong;
 
 // Where the field that a place stands in starts.
-pub fn field_start(text: &[u8], from: usize, at: usize) -> usize
-    requires { (from ≤ at) × (at < length text.now) }
-    ensures { (from ≤ result) × (result ≤ at) }
+pub fn field_start(line: &[u8], at: usize) -> usize
+    requires { at < length line.now }
+    ensures { result ≤ at }
 {
-    let mut start = at;
-    while start > from {
-        if text[start - 1] == b' ' {
-            return start;
-        }
-        start -= 1;
+    match line[..at].iter().rposition(|b| *b == b' ') {
+        Some(space) => space + 1,
+        None => 0,
     }
-    start
 }
 
-// Where it ends.
-fn field_end(text: &[u8], at: usize, end: usize) -> usize
-    requires { (at < end) × (end ≤ length text.now) }
-    ensures { (at < result) × (result ≤ end) }
+// The field that starts at a place.
+fn field_from(line: &[u8], start: usize) -> &[u8]
+    requires { start ≤ length line.now }
 {
-    let mut to = at + 1;
-    while to < end {
-        if text[to] == b' ' {
-            return to;
-        }
-        to += 1;
-    }
-    to
+    let field = &line[start..];
+    let len = field.iter().take_while(|b| **b != b' ').count();
+    &field[..len]
 }
 
-// No digits can stand like this between commas.
-const NOT_GROUPED: usize = 9;
+fn is_digits(group: &[u8]) -> bool {
+    group.iter().all(|b| b.is_ascii_digit())
+}
 
-// How many digits stand behind the last comma, a byte later: groups of three, the first of one to three and not with a 0 in front.
-fn run_after(b: u8, run: usize, first: bool) -> usize
-    ensures { result ≤ 9 }
-{
-    if b == b',' {
-        if run == 3 || first && run > 0 {
-            return 0;
-        }
-        return NOT_GROUPED;
-    }
-    if b == b'0' && first && run == 0 {
-        return NOT_GROUPED;
-    }
-    if run < 3 {
-        if figures::is_digit(b) {
-            return run + 1;
-        }
-    }
-    NOT_GROUPED
+// Whether digits may stand before the first comma: one to three, and not with a 0 in front.
+fn is_first_group(group: &[u8]) -> bool {
+    (1..=3).contains(&group.len()) && !group.starts_with(b"0") && is_digits(group)
 }
 
 // Whether digits stand in groups of three with commas between them, so that it is clear what number is meant.
-fn is_grouped(text: &[u8], from: usize, to: usize) -> bool
-    requires { (from ≤ to) × (to ≤ length text.now) }
-{
-    let mut run = 0;
-    let mut first = true;
-    let mut at = from;
-    while at < to {
-        let b = text[at];
-        run = run_after(b, run, first);
-        if run == NOT_GROUPED {
-            return false;
-        }
-        first = first && b != b',';
-        at += 1;
-    }
-    run == 3 && !first
+fn is_grouped(number: &[u8]) -> bool {
+    let mut groups = number.split(|b| *b == b',');
+    groups.next().is_some_and(is_first_group)
+        && groups.all(|group| group.len() == 3 && is_digits(group))
 }
 
 // Whether it is clear what number with commas is meant: a minus or none, and digits in groups.
-fn is_clear(text: &[u8], from: usize, to: usize) -> bool
-    requires { (from < to) × (to ≤ length text.now) }
-{
-    if text[from] == b'-' {
-        return is_grouped(text, from + 1, to);
-    }
-    is_grouped(text, from, to)
-}
-
-fn say_but_comma(out: &mut [u8], at: usize, b: u8) -> usize {
-    if b == b',' {
-        return at;
-    }
-    say::byte(out, at, b)
-}
-
-// A field without its commas.
-fn say_without_commas(text: &[u8], from: usize, to: usize, out: &mut [u8], put: usize) -> usize
-    requires { (from ≤ to) × (to ≤ length text.now) }
-{
-    let mut end = put;
-    let mut at = from;
-    while at < to {
-        end = say_but_comma(out, end, text[at]);
-        at += 1;
-    }
-    end
+fn is_clear(field: &[u8]) -> bool {
+    is_grouped(field.strip_prefix(b"-").unwrap_or(field))
 }
 
 // Whether the figure that starts at a place is the first of a call or of a position: a number of an account, which no comma parts.
-fn names_account(text: &[u8], from: usize, start: usize) -> bool
-    requires { (from ≤ start) × (from < length text.now) }
-{
-    if start == from {
-        return true;
-    }
-    match text[from] {
-        b'D' | b'W' | b'G' | b'T' => start - from == 2,
-        _ => false,
-    }
-}
-
-// How a figure with a comma or a point is written where it is not clear which number is meant: by what it may be.
-fn say_whole(out: &mut [u8], put: usize) -> usize {
-    say::word(
-        out,
-        put,
-        b"figures are whole: 800000 yen, a price of 150.25 as 1502500, a rate of 3.55 % as 355",
-    )
+fn names_account(line: &[u8], start: usize) -> bool {
+    start == 0 || start == 2 && matches!(lines::byte_at(line, 0), b'D' | b'W' | b'G' | b'T')
 }
 
 // A comma: what to write, where that is clear.
-pub fn say_comma(
-    text: &[u8],
-    from: usize,
-    at: usize,
-    end: usize,
-    out: &mut [u8],
-    put: usize,
-) -> usize
-    requires { (from ≤ at) × (at < end) × (end ≤ length text.now) }
+pub fn comma(line: &[u8], at: usize) -> Wrong<'_>
+    requires { at < length line.now }
 {
-    let start = field_start(text, from, at);
-    let to = field_end(text, at, end);
-    if marks::is_capital(text[start]) {
-        return say::word(
-            out,
-            put,
-            b"a comma behind a word: write one space, or take it away",
-        );
+    let start = field_start(line, at);
+    if line[start].is_ascii_uppercase() {
+        return Wrong::Words("a comma behind a word: write one space, or take it away");
     }
-    let put2 = say::word(out, put, b"a comma in a number: ");
-    if names_account(text, from, start) {
-        return say_whole(out, put2);
+    let field = field_from(line, start);
+    if names_account(line, start) || !is_clear(field) {
+        return Wrong::NotWhole("comma");
     }
-    if is_clear(text, start, to) {
-        let put3 = say::word(out, put2, b"write ");
-        return say_without_commas(text, start, to, out, put3);
-    }
-    say_whole(out, put2)
+    Wrong::Commas(field)
 }
 
 // A point.
-pub fn say_point(text: &[u8], from: usize, at: usize, out: &mut [u8], put: usize) -> usize
-    requires { (from ≤ at) × (at < length text.now) }
+pub fn point(line: &[u8], at: usize) -> Wrong<'static>
+    requires { at < length line.now }
 {
-    let start = field_start(text, from, at);
-    if marks::is_capital(text[start]) {
-        return say::word(out, put, b"a point behind a word: take it away");
+    if line[field_start(line, at)].is_ascii_uppercase() {
+        return Wrong::Words("a point behind a word: take it away");
     }
-    let put2 = say::word(out, put, b"a point in a number: ");
-    say_whole(out, put2)
+    Wrong::NotWhole("point")
 }

@@ -1,144 +1,92 @@
 // Numbers, and how many of them a line has (01: "no plus sign, no leading zeros, no -0").
-ghost use Rattle.std.specs.Prelude.{◌<◌, length};
-
-use super::say;
 use lines::{LOST, Numeral};
+use std::fmt;
 
-pub fn is_digit(b: u8) -> bool {
-    b >= b'0' && b <= b'9'
+// What is wrong with the figures of a line: how many there are, or one that can not be read, counted from 1.
+#[derive(Clone, Copy)]
+pub enum Fault {
+    Count { has: usize, must: usize },
+    Figure { nth: usize, why: &'static str },
 }
 
-// Why no number can be read behind a minus, by the two bytes there.
-fn say_minus(lead: u8, next: u8, out: &mut [u8], put: usize) -> usize {
-    if lead == b'0' && !is_digit(next) {
-        return say::word(out, put, b"a number is -0: write 0");
+// `: the number of figures is 3 and must be 4`, or `, figure 2: a number has a leading zero: write it without`
+impl fmt::Display for Fault {
+    fn fmt<W: fmt::Write>(&self, f: &mut fmt::Formatter<W>) -> fmt::Result {
+        match *self {
+            Fault::Count { has, must } => write!(
+                f,
+                ": the number of figures is {has} and must be {must}"
+            ),
+            Fault::Figure { nth, why } => write!(f, ", figure {nth}: {why}"),
+        }
     }
-    say_digits(lead, out, put)
 }
+
+// ---- one figure
 
 // Why no number can be read, by the first byte of its digits.
-fn say_digits(lead: u8, out: &mut [u8], put: usize) -> usize {
-    if lead == b'0' {
-        return say::word(out, put, b"a number has a leading zero: write it without");
-    }
-    if is_digit(lead) {
-        return say::word(
-            out,
-            put,
-            b"a number is too large: none may pass 9223372036854775807",
-        );
-    }
-    say_form(out, put)
-}
-
-fn say_form(out: &mut [u8], put: usize) -> usize {
-    say::word(
-        out,
-        put,
-        b"a figure is written in digits alone, with - before them where it is below 0",
-    )
-}
-
-// Why no number can be read at a place.
-fn say_number(text: &[u8], at: usize, out: &mut [u8], put: usize) -> usize
-    requires { at < length text.now }
-{
-    let first = text[at];
-    if first == b'-' {
-        let lead = lines::byte_at(text, at + 1);
-        return say_minus(lead, second_behind(text, at), out, put);
-    }
-    if first == b'+' {
-        return say::word(out, put, b"a number has a plus sign: write it without");
-    }
-    say_digits(first, out, put)
-}
-
-// The second byte behind a place, or 0.
-fn second_behind(text: &[u8], at: usize) -> u8 {
-    if text.len() < 3 {
-        return 0;
-    }
-    if at > text.len() - 3 {
-        return 0;
-    }
-    text[at + 2]
-}
-
-// `line 7, figure 2: `; figures are counted from 1, behind the letter.
-pub fn say_where(line: usize, k: usize, out: &mut [u8]) -> usize {
-    let counts = [line, k];
-    say::form(out, 0, b"line #, figure #: ", &counts, 0)
-}
-
-// Why the k-th figure can not be read.
-fn tell_field(text: &[u8], at: usize, line: usize, k: usize, out: &mut [u8]) -> usize {
-    let a = say_where(line, k, out);
-    if at >= text.len() {
-        return say_form(out, a);
-    }
-    let n = lines::number_at(text, at);
-    match n {
-        Numeral::Bad => say_number(text, at, out, a),
-        Numeral::Value(_, _) => say_form(out, a),
+fn why_digits(lead: u8) -> &'static str {
+    match lead {
+        b'0' => "a number has a leading zero: write it without",
+        b'1'..=b'9' => "a number is too large: none may pass 9223372036854775807",
+        _ => "a figure is written in digits alone, with - before them where it is below 0",
     }
 }
 
-// How many fields there are, behind a byte.
-fn fields_after(n: usize, b: u8) -> usize {
-    if b == b' ' {
-        if n < 65536 {
-            return n + 1;
+// The same behind a minus, by the two bytes there.
+fn why_minus(lead: u8, next: u8) -> &'static str {
+    if lead == b'0' && !next.is_ascii_digit() {
+        return "a number is -0: write 0";
+    }
+    why_digits(lead)
+}
+
+// The same at the start of a figure.
+fn why_number(figure: &[u8]) -> &'static str {
+    match lines::byte_at(figure, 0) {
+        b'-' => why_minus(lines::byte_at(figure, 1), lines::byte_at(figure, 2)),
+        b'+' => "a number has a plus sign: write it without",
+        lead => why_digits(lead),
+    }
+}
+
+// Why a figure can not be read: its number, or what stands behind that.
+fn why(figure: &[u8]) -> &'static str {
+    match lines::number_at(figure, 0) {
+        Numeral::Bad => why_number(figure),
+        Numeral::Value(_, _) => why_digits(b' '),
+    }
+}
+
+// ---- all of them
+
+// How many fields stand in a line.
+pub fn fields(line: &[u8]) -> usize {
+    line.split(|b| *b == b' ').count()
+}
+
+// The first figure that can not be read, of those that stand up to the line's end.
+fn unread(figures: &[u8], must: usize) -> Option<Fault> {
+    let mut at = 0;
+    for i in 0..must {
+        let next = lines::field_at(figures, at, lines::close_of(must - i - 1)).next;
+        if next == LOST {
+            return Some(Fault::Figure {
+                nth: i + 1,
+                why: why(figures.get(at..).unwrap_or(&[])),
+            });
         }
+        at = next;
     }
-    n
-}
-
-// How many fields a line has from a place on.
-pub fn fields(text: &[u8], from: usize) -> usize {
-    let mut n = 1;
-    let mut at = from;
-    while at < text.len() {
-        let b = text[at];
-        if b == b'\n' {
-            return n;
-        }
-        n = fields_after(n, b);
-        at += 1;
-    }
-    n
+    None
 }
 
 // What is the matter with `must` figures up to the line's end: how many there are, before what each of them is, since a number that is parted by a
 // space is two.
-pub fn tell(text: &[u8], from: usize, must: usize, line: usize, out: &mut [u8]) -> usize {
-    let has = fields(text, from);
-    if has == must {
-        return tell_each(text, from, must, line, out);
+pub fn first_fault(figures: &[u8], must: usize) -> Option<Fault> {
+    let has = fields(figures);
+    if has != must {
+        return Some(Fault::Count { has, must });
     }
-    let counts = [line, has, must];
-    say::form(
-        out,
-        0,
-        b"line #: the number of figures is # and must be #",
-        &counts,
-        0,
-    )
-}
-
-// The first figure that can not be read.
-fn tell_each(text: &[u8], from: usize, must: usize, line: usize, out: &mut [u8]) -> usize {
-    let mut at = from;
-    let mut left = must;
-    while left > 0 {
-        left -= 1;
-        let close = lines::close_of(left);
-        let f = lines::field_at(text, at, close);
-        let next = f.next;
-        if next == LOST {
-            return tell_field(text, at, line, must - left, out);
-        }
-        at = next;
-    }
-    0
+    unread(figures, must)
 }

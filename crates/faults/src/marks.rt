@@ -1,241 +1,185 @@
 // Bytes that no line of a day file has: whatever else is wrong with the line, they have to go. A file that was typed or saved by other habits
 // has them: Windows line ends, tabs, commas in numbers, a space too many.
-ghost use Rattle.std.specs.Prelude.{◌+◌, ◌<◌, ◌≤◌, length};
+ghost use Rattle.std.specs.Prelude.{◌<◌, length, IfSome};
 
-use super::{commas, figures, say};
+use super::commas;
+use std::fmt;
 
-// Where a line ends: the place of its line feed, or of the text's end.
-pub fn line_end(text: &[u8], from: usize) -> usize
-    requires { from ≤ length text.now }
-    ensures { (from ≤ result) × (result ≤ length text.now) }
-{
-    let mut at = from;
-    while at < text.len() {
-        if text[at] == b'\n' {
-            return at;
+// What is wrong with the bytes of a line: with all of it, or with one, by its column, counted from 1.
+#[derive(Clone, Copy)]
+pub enum Fault<'a> {
+    Line(&'static str),
+    Byte { column: usize, wrong: Wrong<'a> },
+}
+
+// What is the matter with a byte that may not stand where it does. Where the words are not all, of `Small` the capital to write, of `Commas` the number
+// that is meant, of `NotWhole` what stands in a number, of `Foreign` the byte.
+#[derive(Clone, Copy)]
+pub enum Wrong<'a> {
+    Words(&'static str),
+    Small(char),
+    Commas(&'a [u8]),
+    NotWhole(&'static str),
+    Foreign(char),
+}
+
+// `: a blank line: take it away`, or `, column 6: a tab: write one space`
+impl fmt::Display for Fault<'_> {
+    fn fmt<W: fmt::Write>(&self, f: &mut fmt::Formatter<W>) -> fmt::Result {
+        match *self {
+            Fault::Line(words) => write!(f, ": {words}"),
+            Fault::Byte { column, wrong } => write!(f, ", column {column}: {wrong}"),
         }
-        at += 1;
     }
-    at
 }
 
-pub fn is_capital(b: u8) -> bool {
-    b >= b'A' && b <= b'Z'
+impl fmt::Display for Wrong<'_> {
+    fn fmt<W: fmt::Write>(&self, f: &mut fmt::Formatter<W>) -> fmt::Result {
+        match *self {
+            Wrong::Words(words) => f.write_str(words),
+            Wrong::Small(capital) => write!(f, "a lower-case letter: write {capital}"),
+            Wrong::Commas(number) => write_without_commas(f, number),
+            Wrong::NotWhole(mark) => write!(
+                f,
+                "a {mark} in a number: figures are whole: 800000 yen, a price of 150.25 as 1502500, a rate of 3.55 % as 355"
+            ),
+            Wrong::Foreign(b) => write!(
+                f,
+                "{b} stands in no line of a day file: write one space where it parts two figures, else take it away"
+            ),
+        }
+    }
 }
 
-fn is_small(b: u8) -> bool {
-    b >= b'a' && b <= b'z'
+fn write_without_commas<W: fmt::Write>(f: &mut fmt::Formatter<W>, number: &[u8]) -> fmt::Result {
+    f.write_str("a comma in a number: write ")?;
+    for b in number.iter().filter(|b| **b != b',') {
+        f.write_char(char::from(*b))?;
+    }
+    Ok(())
 }
 
-fn capital_of(b: u8) -> u8 {
-    if b < 32 { b } else { b - 32 }
-}
-
-// The bytes that a line may have, but for the space; a plus sign is left to the number that it stands in.
-fn is_known(b: u8) -> bool {
-    figures::is_digit(b) || is_capital(b) || b == b'-' || b == b'+'
-}
+// ---- where a byte may stand
 
 // Whether a space stands first or last in its line, or before another.
-fn is_idle(text: &[u8], from: usize, at: usize, end: usize) -> bool
-    requires { at < end }
+fn is_idle(line: &[u8], at: usize) -> bool
+    requires { at < length line.now }
 {
-    at == from || at + 1 == end || lines::byte_at(text, at + 1) == b' '
+    at == 0 || at + 1 == line.len() || line[at + 1] == b' '
 }
 
-fn stands_wrong(text: &[u8], from: usize, at: usize, end: usize) -> bool
-    requires { (at < end) × (end ≤ length text.now) }
+// Of the bytes that a line may have, a space parts two figures; a plus sign is left to the number that it stands in.
+fn stands_wrong(line: &[u8], at: usize) -> bool
+    requires { at < length line.now }
 {
-    let b = text[at];
-    if b == b' ' {
-        return is_idle(text, from, at, end);
+    match line[at] {
+        b' ' => is_idle(line, at),
+        b'0'..=b'9' | b'A'..=b'Z' | b'-' | b'+' => false,
+        _ => true,
     }
-    !is_known(b)
 }
 
-// The first byte of a line that may not stand where it does, or the line's end.
-fn first_wrong(text: &[u8], from: usize, end: usize) -> usize
-    requires { (from ≤ end) × (end ≤ length text.now) }
-    ensures { (from ≤ result) × (result ≤ end) }
+// The first byte of a line that may not stand where it does.
+fn first_wrong(line: &[u8]) -> Option<usize>
+    ensures { IfSome result (λ at. at < length line.now) }
 {
-    let mut at = from;
-    while at < end {
-        if stands_wrong(text, from, at, end) {
-            return at;
+    for at in 0..line.len() {
+        if stands_wrong(line, at) {
+            return Some(at);
         }
-        at += 1;
     }
-    at
+    None
 }
 
 // ---- what is said of each
 
-// Whether nothing but spaces and tabs stands from a place to the line's end.
-fn is_blank(text: &[u8], from: usize, end: usize) -> bool
-    requires { (from ≤ end) × (end ≤ length text.now) }
-{
-    let mut at = from;
-    while at < end {
-        let b = text[at];
-        if b != b' ' && b != b'\t' {
-            return false;
-        }
-        at += 1;
-    }
-    true
+// Whether nothing but spaces and tabs stands in bytes.
+fn is_blank(bytes: &[u8]) -> bool {
+    bytes.iter().all(|b| matches!(*b, b' ' | b'\t'))
 }
 
 // A space or tab that may not stand where it does.
-fn say_gap(b: u8, first: bool, last: bool, out: &mut [u8], put: usize) -> usize {
-    if last {
-        if b == b' ' {
-            return say::word(out, put, b"a space at the end of the line: take it away");
-        }
-        return say::word(out, put, b"a tab at the end of the line: take it away");
+fn gap(b: u8, first: bool, last: bool) -> &'static str {
+    match (b, first, last) {
+        (b' ', _, true) => "a space at the end of the line: take it away",
+        (_, _, true) => "a tab at the end of the line: take it away",
+        (b' ', true, false) => "a space at the start of the line: take it away",
+        (b' ', false, false) => "two spaces together: write one",
+        _ => "a tab: write one space",
     }
-    if b != b' ' {
-        return say::word(out, put, b"a tab: write one space");
-    }
-    if first {
-        return say::word(out, put, b"a space at the start of the line: take it away");
-    }
-    say::word(out, put, b"two spaces together: write one")
 }
 
 // A lower-case letter: the first of its line, one of a word of the table of contents, or one where a figure has to stand.
-fn say_small(b: u8, from: usize, at: usize, start: usize, out: &mut [u8], put: usize) -> usize {
-    if start > from {
-        return say::word(
-            out,
-            put,
-            b"a letter where a figure has to stand: write the whole number in digits",
+fn small(b: u8, at: usize, start: usize) -> Wrong<'static> {
+    if start > 0 {
+        return Wrong::Words(
+            "a letter where a figure has to stand: write the whole number in digits",
         );
     }
-    if at > from {
-        return say::word(out, put, b"a lower-case letter: write the word in capitals");
+    if at > 0 {
+        return Wrong::Words("a lower-case letter: write the word in capitals");
     }
-    let a = say::word(out, put, b"a lower-case letter: write ");
-    say::byte(out, a, capital_of(b))
+    Wrong::Small(char::from(b.to_ascii_uppercase()))
 }
 
 // A byte that is part of no plain character, by it and the next.
-fn say_not_plain(b: u8, next: u8, out: &mut [u8], put: usize) -> usize {
-    if b == 0xC2 && next == 0xA0 {
-        return say::word(out, put, b"a no-break space: write a plain one");
+fn not_plain(b: u8, next: u8) -> &'static str {
+    match (b, next) {
+        (0xC2, 0xA0) => "a no-break space: write a plain one",
+        (0xEF, 0xBB) => "a byte order mark within the text: take it away",
+        (0xEF, 0xBC) | (0xE3, 0x80) =>
+            "a full-width character: write it half-width, as plain ASCII",
+        _ =>
+            "a character that is not plain ASCII: write digits, capitals and spaces alone, and for a minus -",
     }
-    if b == 0xEF && next == 0xBB {
-        return say::word(out, put, b"a byte order mark within the text: take it away");
-    }
-    if b == 0xEF && next == 0xBC || b == 0xE3 && next == 0x80 {
-        return say::word(
-            out,
-            put,
-            b"a full-width character: write it half-width, as plain ASCII",
-        );
-    }
-    say::word(
-        out,
-        put,
-        b"a character that is not plain ASCII: write digits, capitals and spaces alone, and for a minus -",
-    )
 }
 
 // A byte of plain ASCII that no line has.
-fn say_foreign(b: u8, out: &mut [u8], put: usize) -> usize {
-    if b == b'%' {
-        return say::word(
-            out,
-            put,
-            b"a percent sign: a rate is in hundredths of a percent, and 4 % is written 400",
-        );
+fn foreign(b: u8) -> Wrong<'static> {
+    match b {
+        b'%' => Wrong::Words(
+            "a percent sign: a rate is in hundredths of a percent, and 4 % is written 400",
+        ),
+        b'(' | b')' => Wrong::Words(
+            "a bracket: a figure below 0 is written with a minus before it, as -45213",
+        ),
+        0..=31 | 127 => Wrong::Words(
+            "a control character: take it away, or save the file as plain text",
+        ),
+        _ => Wrong::Foreign(char::from(b)),
     }
-    if b == b'(' || b == b')' {
-        return say::word(
-            out,
-            put,
-            b"a bracket: a figure below 0 is written with a minus before it, as -45213",
-        );
-    }
-    if b < 32 || b == 127 {
-        return say::word(
-            out,
-            put,
-            b"a control character: take it away, or save the file as plain text",
-        );
-    }
-    let a = say::byte(out, put, b);
-    say::word(
-        out,
-        a,
-        b" stands in no line of a day file: write one space where it parts two figures, else take it away",
-    )
 }
 
 // What is the matter with a byte that may not stand where it does.
-fn say_byte(text: &[u8], from: usize, at: usize, end: usize, out: &mut [u8], put: usize) -> usize
-    requires { (from ≤ at) × (at < end) × (end ≤ length text.now) }
+fn wrong_at(line: &[u8], at: usize) -> Wrong<'_>
+    requires { at < length line.now }
 {
-    let b = text[at];
-    if b == b' ' || b == b'\t' {
-        let last = is_blank(text, at, end);
-        return say_gap(b, at == from, last, out, put);
-    }
+    let b = line[at];
     if b == b',' {
-        return commas::say_comma(text, from, at, end, out, put);
+        return commas::comma(line, at);
     }
-    if b == b'.' {
-        return commas::say_point(text, from, at, out, put);
+    match b {
+        b' ' | b'\t' => Wrong::Words(gap(b, at == 0, is_blank(&line[at..]))),
+        b'.' => commas::point(line, at),
+        b'a'..=b'z' => small(b, at, commas::field_start(line, at)),
+        128..=255 => Wrong::Words(not_plain(b, lines::byte_at(line, at + 1))),
+        _ => foreign(b),
     }
-    if is_small(b) {
-        let start = commas::field_start(text, from, at);
-        return say_small(b, from, at, start, out, put);
-    }
-    if b >= 128 {
-        return say_not_plain(b, lines::byte_at(text, at + 1), out, put);
-    }
-    say_foreign(b, out, put)
 }
 
-// The same, with its column, counted from 1.
-fn tell_byte(text: &[u8], from: usize, at: usize, end: usize, line: usize, out: &mut [u8]) -> usize
-    requires { (from ≤ at) × (at < end) × (end ≤ length text.now) }
-{
-    let counts = [line, at - from + 1];
-    let a = say::form(out, 0, b"line #, column #: ", &counts, 0);
-    say_byte(text, from, at, end, out, a)
-}
-
-// Whether a carriage return stands last in a line.
-fn ends_in_return(text: &[u8], from: usize, end: usize) -> bool
-    requires { (from ≤ end) × (end ≤ length text.now) }
-{
-    if from == end {
-        return false;
+// What is wrong with the bytes of a line, its line feed left out.
+pub fn first_fault(line: &[u8]) -> Option<Fault<'_>> {
+    if is_blank(line) {
+        return Some(Fault::Line("a blank line: take it away"));
     }
-    text[end - 1] == b'\r'
-}
-
-// What is wrong with the bytes of a line.
-pub fn tell(text: &[u8], from: usize, line: usize, out: &mut [u8]) -> usize
-    requires { from ≤ length text.now }
-{
-    let end = line_end(text, from);
-    let counts = [line];
-    if is_blank(text, from, end) {
-        return say::form(out, 0, b"line #: a blank line: take it away", &counts, 0);
+    if line.ends_with(b"\r") {
+        return Some(Fault::Line(
+            "a carriage return ends the line: save the file with Unix line ends, a line feed alone",
+        ));
     }
-    if ends_in_return(text, from, end) {
-        return say::form(
-            out,
-            0,
-            b"line #: a carriage return ends the line: save the file with Unix line ends, a line feed alone",
-            &counts,
-            0,
-        );
-    }
-    let at = first_wrong(text, from, end);
-    if at == end {
-        return 0;
-    }
-    tell_byte(text, from, at, end, line, out)
+    let at = first_wrong(line)?;
+    Some(Fault::Byte {
+        column: at + 1,
+        wrong: wrong_at(line, at),
+    })
 }

@@ -3,10 +3,14 @@
 // Proved to be safe, to end, and to keep within the bytes that it is lent; what it says is tried by the program `texts`.
 #![tactic(auto)]
 
-ghost use Rattle.std.specs.Prelude.{◌<◌, ◌≤◌, length};
+ghost use Rattle.std.specs.Prelude.{◌≤◌, length};
 
-use faults::{marks, say};
-use lines::{LONGEST, LOST};
+use dayfile::Contents;
+use faults::marks;
+use faults::page::Page;
+use lines::LONGEST;
+use std::fmt;
+use std::fmt::Write;
 
 mod bodies;
 mod ranges;
@@ -15,127 +19,93 @@ mod sections;
 mod start;
 mod table;
 
-// How many line feeds are still to come, behind a byte.
-fn feeds_left(left: usize, b: u8) -> usize {
-    if b == b'\n' && left > 0 {
-        return left - 1;
-    }
-    left
+// A text, and what its table of contents says.
+#[derive(Clone, Copy)]
+struct Day<'a> {
+    text: &'a [u8],
+    contents: Contents,
 }
 
-// Where a line starts, the first being number 1; or the text's length, where it has no such line.
-fn line_start(text: &[u8], line: usize) -> usize
-    ensures { result ≤ length text.now }
-{
-    let mut at = 0;
-    let mut left = line;
-    while at < text.len() {
-        if left < 2 {
-            return at;
-        }
-        let b = text[at];
-        left = feeds_left(left, b);
-        at += 1;
+impl<'a> Day<'a> {
+    // A line by its number, the first being 1, with the line feed that ends it; nothing, where the text has no such line.
+    fn line(self, number: usize) -> Option<&'a [u8]> {
+        self.text
+            .split_inclusive(|b| *b == b'\n')
+            .nth(number.saturating_sub(1))
     }
-    at
 }
 
-// Where the next line starts.
-fn next_line(text: &[u8], from: usize) -> usize
-    requires { from < length text.now }
-    ensures { (from < result) × (result ≤ length text.now) }
-{
-    let end = marks::line_end(text, from);
-    if end < text.len() {
-        return end + 1;
+// How the file is saved, where it is not saved as plain text: as UTF-16, with a mark at its start or a byte 0 beside its first letter; or with a byte order
+// mark.
+fn saved_otherwise(text: &[u8]) -> Option<&'static str> {
+    match *text {
+        [0xFF, 0xFE, ..] | [0xFE, 0xFF, ..] | [0, _, ..] | [_, 0, ..] => Some(
+            "line 1: the file is saved as UTF-16: save it as plain text, ASCII or UTF-8 without a byte order mark",
+        ),
+        [0xEF, 0xBB, 0xBF, ..] => Some(
+            "line 1: a byte order mark stands before FXDAY: save the file as UTF-8 without a byte order mark",
+        ),
+        _ => None,
     }
-    end
-}
-
-// Whether a text is saved as UTF-16: a mark at its start, or a byte 0 beside its first letter.
-fn is_utf16(text: &[u8]) -> bool {
-    let a = lines::byte_at(text, 0);
-    let b = lines::byte_at(text, 1);
-    if a == 0xFF && b == 0xFE || a == 0xFE && b == 0xFF {
-        return true;
-    }
-    text.len() > 1 && (a == 0 || b == 0)
-}
-
-// How the file is saved, where it is not saved as plain text.
-fn tell_saved(text: &[u8], out: &mut [u8]) -> usize {
-    if is_utf16(text) {
-        return say::word(
-            out,
-            0,
-            b"line 1: the file is saved as UTF-16: save it as plain text, ASCII or UTF-8 without a byte order mark",
-        );
-    }
-    if lines::word_at(text, 0, b"\xEF\xBB\xBF") {
-        return say::word(
-            out,
-            0,
-            b"line 1: a byte order mark stands before FXDAY: save the file as UTF-8 without a byte order mark",
-        );
-    }
-    0
 }
 
 // A line that is there: its bytes, its end, what it has to be.
-fn tell_line(text: &[u8], at: usize, line: usize, out: &mut [u8]) -> usize
-    requires { at ≤ length text.now }
-{
-    let bytes = marks::tell(text, at, line, out);
-    if bytes > 0 {
-        return bytes;
+fn say_line(page: &mut Page, day: Day, line: &[u8], number: usize) -> fmt::Result {
+    if let Some(fault) = marks::first_fault(line.strip_suffix(b"\n").unwrap_or(line)) {
+        return write!(page, "line {number}{fault}");
     }
-    if marks::line_end(text, at) == text.len() {
-        let counts = [line];
-        return say::form(
-            out,
-            0,
-            b"line #: the last line does not end in a line feed: press Enter at its end",
-            &counts,
-            0,
+    if !line.ends_with(b"\n") {
+        return write!(
+            page,
+            "line {number}: the last line does not end in a line feed: press Enter at its end"
         );
     }
-    if line < table::LINES + 1 {
-        return table::tell(text, at, line, out);
+    if number <= table::LINES {
+        return table::say(page, line, number);
     }
-    bodies::tell(text, at, line, out)
+    bodies::say(page, day, line, number)
 }
 
-// What is wrong with the first bad line of a text.
-fn tell_bad(text: &[u8], line: usize, out: &mut [u8]) -> usize {
-    if text.len() > LONGEST {
-        return say::word(out, 0, b"the text is longer than 65536 bytes");
+// What is wrong with the first bad line of a text, by its number; 0 where no line is bad, but the ledger that the text states.
+fn say_bad(page: &mut Page, day: Day, number: usize) -> fmt::Result {
+    if number == 0 {
+        return start::say(page, day);
     }
-    if line == 0 {
-        return start::tell(text, out);
+    if day.text.is_empty() {
+        return page.write_str("line 1: the file is empty");
     }
-    if text.len() == 0 {
-        return say::word(out, 0, b"line 1: the file is empty");
+    if let Some(saved) = saved_otherwise(day.text) {
+        return page.write_str(saved);
     }
-    let saved = tell_saved(text, out);
-    if saved > 0 {
-        return saved;
+    match day.line(number) {
+        Some(line) => say_line(page, day, line, number),
+        None if number <= table::LINES => page.write_str(table::must(number)),
+        None => bodies::say_missing(page, day, number),
     }
-    let at = line_start(text, line);
-    if at < text.len() {
-        return tell_line(text, at, line, out);
-    }
-    if line < table::LINES + 1 {
-        return table::tell(text, at, line, out);
-    }
-    bodies::tell_missing(text, line, out)
 }
 
-// The same, as a line of its own.
-fn tell_bad_line(text: &[u8], line: usize, out: &mut [u8]) -> usize
-    ensures { result ≤ length out.new }
-{
-    let end = tell_bad(text, line, out);
-    say::word(out, end, b"\n")
+// What is to be told of a text, by its sheet.
+fn say(page: &mut Page, text: &[u8], sheet: &[u8]) -> fmt::Result {
+    if let Some(bad) = sheet.strip_prefix(b"BAD ") {
+        if text.len() > LONGEST {
+            return page.write_str("the text is longer than 65536 bytes\n");
+        }
+        let contents = dayfile::read_contents(text);
+        let number = lines::field_at(bad, 0, b'\n').value.unsigned_abs() as usize;
+        say_bad(page, Day { text, contents }, number)?;
+        return page.write_str("\n");
+    }
+    match sheet.strip_prefix(b"FXSHEET\n") {
+        Some(replies) => refusals::say(
+            page,
+            Day {
+                text,
+                contents: dayfile::read_contents(text),
+            },
+            replies,
+        ),
+        None => Ok(()),
+    }
 }
 
 // What is to be told of a text, by its sheet, at the start of `out`; and its length, 0 where there is nothing to tell. What has no room is left out:
@@ -143,11 +113,8 @@ fn tell_bad_line(text: &[u8], line: usize, out: &mut [u8]) -> usize
 pub fn tell(text: &[u8], sheet: &[u8], out: &mut [u8]) -> usize
     ensures { result ≤ length out.new }
 {
-    let at = lines::past_word(sheet, 0, b"BAD ");
-    if at == LOST {
-        return refusals::tell(text, sheet, out);
-    }
-    let bad = lines::field_at(sheet, at, b'\n');
-    let line = whole::nat_abs(bad.value) as usize;
-    tell_bad_line(text, line, out)
+    let mut page = Page::new(out);
+    // where there is no room for all of it, the page holds what there is room for
+    let _ = say(&mut page, text, sheet);
+    page.bytes().len().min(out.len())
 }

@@ -1,73 +1,80 @@
 // A figure that is out of its range, in words, of a line or of a call; and which of the figures of a trade or of a close it is (01, "Numbers returned",
 // 8).
-use super::sections;
-use faults::say;
+use super::Day;
+use super::sections::Section;
+use faults::page::Page;
 use rules::{products, sizes};
+use std::fmt;
+use std::fmt::Write;
+
+// A figure by its name, and its range.
+#[derive(Clone, Copy)]
+pub struct Ranged {
+    pub name: &'static str,
+    pub figure: i64,
+    pub least: i64,
+    pub most: i64,
+}
+
+impl Ranged {
+    fn is_within(&self) -> bool {
+        (self.least..=self.most).contains(&self.figure)
+    }
+}
 
 // `the guarantee is -5 and must be 0 to 1000000000000`
-pub fn say_range(
-    out: &mut [u8],
-    at: usize,
-    name: &[u8],
-    figure: i64,
-    least: usize,
-    most: u64,
-) -> usize {
-    let a = say::word(out, at, name);
-    let counts = [least, most as usize];
-    say::form(out, a, b" is @ and must be # to #", &counts, figure)
+impl fmt::Display for Ranged {
+    fn fmt<W: fmt::Write>(&self, f: &mut fmt::Formatter<W>) -> fmt::Result {
+        let Ranged {
+            name,
+            figure,
+            least,
+            most,
+        } = *self;
+        write!(f, "{name} is {figure} and must be {least} to {most}")
+    }
 }
 
 // A price, by its product's kind.
-pub fn say_price(out: &mut [u8], at: usize, kind: i64, price: i64) -> usize {
-    let most = whole::nat_abs(products::most_price(kind));
-    if products::is_yen(kind) {
-        return say_range(out, at, b"the price of a yen product (Y)", price, 1, most);
+pub fn price(kind: i64, figure: i64) -> Ranged {
+    let name = if products::is_yen(kind) {
+        "the price of a yen product (Y)"
+    } else {
+        "the price of a cross (X)"
+    };
+    let most = products::most_price(kind);
+    Ranged {
+        name,
+        figure,
+        least: 1,
+        most,
     }
-    say_range(out, at, b"the price of a cross (X)", price, 1, most)
 }
 
 // The kind that a product's line states: 1 for a cross, 0 for a yen product.
-pub fn kind_at(text: &[u8], line: usize) -> i64 {
-    let at = super::line_start(text, line);
-    if lines::word_at(text, at, b"X") { 1 } else { 0 }
-}
-
-// The kind of a product, by its number.
-fn kind_of(text: &[u8], product: usize) -> i64 {
-    kind_at(text, sections::plus(sections::FIRST, product))
-}
-
-fn figure_at(figures: &[i64], i: usize) -> i64 {
-    if i < figures.len() {
-        return figures[i];
+pub fn kind_of(day: Day, product: usize) -> i64 {
+    match day.line(Section::Products.line_number(day.contents, product)) {
+        Some(line) if line.starts_with(b"X") => 1,
+        _ => 0,
     }
-    0
-}
-
-fn say_product(out: &mut [u8], at: usize, product: usize) -> usize {
-    let counts = [product];
-    say::form(out, at, b"product #: ", &counts, 0)
 }
 
 // ---- a trade
 
 // Its lots, else its price: account, account and product come before them.
-fn say_trade(text: &[u8], figures: &[i64], out: &mut [u8], put: usize) -> usize {
-    let lots = figure_at(figures, 3);
-    if !whole::between(lots, 1, sizes::MOST_LOTS) {
-        return say_range(
-            out,
-            put,
-            b"the number of lots",
-            lots,
-            1,
-            sizes::MOST_LOTS as u64,
-        );
+fn say_trade(page: &mut Page, day: Day, figures: &[i64; dayfile::MOST_FIGURES]) -> fmt::Result {
+    let lots = Ranged {
+        name: "the number of lots",
+        figure: figures[3],
+        least: 1,
+        most: sizes::MOST_LOTS,
+    };
+    if !lots.is_within() {
+        return write!(page, "{lots}");
     }
-    let product = whole::nat_abs(figure_at(figures, 2)) as usize;
-    let a = say_product(out, put, product);
-    say_price(out, a, kind_of(text, product), figure_at(figures, 4))
+    let product = figures[2].unsigned_abs() as usize;
+    let price = price(kind_of(day, product), figures[4]);
+    write!(page, "product {product}: {price}")
 }
 
 // ---- a close
@@ -75,56 +82,54 @@ fn say_trade(text: &[u8], figures: &[i64], out: &mut [u8], put: usize) -> usize 
 // How many figures a close has of each product: its price, its two rates, its lag.
 const OF_PRODUCT: usize = 4;
 
-const LAG: usize = 3;
-
 const LAST_LAG: i64 = places::DUES as i64 - 1;
 
-// Whether a figure of a close is in its range, by its place among those of its product.
-fn is_in(text: &[u8], product: usize, place: usize, x: i64) -> bool {
-    match place {
-        0 => whole::between(x, 1, products::most_price(kind_of(text, product))),
-        LAG => whole::between(x, 0, LAST_LAG),
-        _ => whole::between(x, 1, sizes::MOST_RATE),
+// A figure of a close, by its place among those of its product.
+fn of_close(kind: i64, place: usize, figure: i64) -> Ranged {
+    let (name, least, most) = match place {
+        0 => return price(kind, figure),
+        1 => ("the 8-week rate", 1, sizes::MOST_RATE),
+        2 => ("the 104-week rate", 1, sizes::MOST_RATE),
+        _ => ("the lag", 0, LAST_LAG),
+    };
+    Ranged {
+        name,
+        figure,
+        least,
+        most,
     }
 }
 
-// The first figure of a close that is not, from 0.
-fn first_outside(text: &[u8], figures: &[i64]) -> usize {
-    let mut i = 0;
-    while i < figures.len() {
-        let x = figure_at(figures, i);
-        if !is_in(text, i / OF_PRODUCT, i % OF_PRODUCT, x) {
-            return i;
-        }
-        i += 1;
-    }
-    i
+// The first figure of a product that is out of its range.
+fn first_outside(kind: i64, figures: &[i64]) -> Option<Ranged> {
+    figures
+        .iter()
+        .enumerate()
+        .map(|(place, figure)| of_close(kind, place, *figure))
+        .find(|ranged| !ranged.is_within())
 }
 
 // `product 1: the lag is 3 and must be 0 to 2`
-fn say_close(text: &[u8], figures: &[i64], out: &mut [u8], put: usize) -> usize {
-    let i = first_outside(text, figures);
-    let x = figure_at(figures, i);
-    let product = i / OF_PRODUCT;
-    let a = say_product(out, put, product);
-    let rate = sizes::MOST_RATE as u64;
-    match i % OF_PRODUCT {
-        0 => say_price(out, a, kind_of(text, product), x),
-        1 => say_range(out, a, b"the 8-week rate", x, 1, rate),
-        2 => say_range(out, a, b"the 104-week rate", x, 1, rate),
-        _ => say_range(out, a, b"the lag", x, 0, LAST_LAG as u64),
+fn say_close(page: &mut Page, day: Day, figures: &[i64]) -> fmt::Result {
+    for (product, of_product) in figures.chunks(OF_PRODUCT).enumerate() {
+        let kind = kind_of(day, product);
+        if let Some(ranged) = first_outside(kind, of_product) {
+            return write!(page, "product {product}: {ranged}");
+        }
     }
+    Ok(())
 }
 
 // The first figure of a trade or of a close that is out of its range, in the order of its line.
-pub fn say_first(text: &[u8], at: usize, p: usize, out: &mut [u8], put: usize) -> usize {
+pub fn say_first(page: &mut Page, day: Day, call: &[u8]) -> fmt::Result {
+    let p = day.contents.products;
     if p > places::MOST_PRODUCTS {
-        return put;
+        return Ok(());
     }
     let mut figures = [0i64; dayfile::MOST_FIGURES];
-    dayfile::call_line(text, p, at, &mut figures);
-    if lines::byte_at(text, at) == b'T' {
-        return say_trade(text, &figures, out, put);
+    dayfile::call_line(call, p, 0, &mut figures);
+    if call.starts_with(b"T") {
+        return say_trade(page, day, &figures);
     }
-    say_close(text, &figures, out, put)
+    say_close(page, day, &figures)
 }

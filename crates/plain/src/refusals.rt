@@ -1,322 +1,291 @@
 // The calls that were refused: how many of how many, and for each its line in the text, the call as it is written there, the number, and the reason in
 // words (01, "Numbers returned").
-ghost use Rattle.std.specs.Prelude.{◌<◌, ◌≤◌, length};
-
-use super::{ranges, sections};
-use dayfile::Contents;
-use faults::{marks, say};
-use lines::LOST;
+use super::sections::Section;
+use super::{Day, ranges};
+use faults::page::Page;
 use rules::sizes;
+use std::fmt;
+use std::fmt::Write;
 
-// Where in the run a call stands: the phase (RULES, 3.2), 0 outside a run and then one more than the transfers that are done; and whether a close is
-// done since the last begin.
-#[derive(Clone, Copy)]
-struct Stage {
-    phase: usize,
-    closed: bool,
+// A call, by the letter of its line.
+#[derive(Clone, Copy, PartialEq, Eq)]
+enum Call {
+    Deposit,
+    Withdraw,
+    Guarantee,
+    Begin,
+    Step,
+    Trade,
+    Close,
 }
 
-// A call's reply, and where it stands: the call's line, how many accounts and products there are, and the stage.
+impl TryFrom<u8> for Call {
+    type Error = u8;
+
+    fn try_from(letter: u8) -> Result<Call, u8> {
+        match letter {
+            b'D' => Ok(Call::Deposit),
+            b'W' => Ok(Call::Withdraw),
+            b'G' => Ok(Call::Guarantee),
+            b'B' => Ok(Call::Begin),
+            b'S' => Ok(Call::Step),
+            b'T' => Ok(Call::Trade),
+            b'C' => Ok(Call::Close),
+            other => Err(other),
+        }
+    }
+}
+
+// Why a call is refused: an account or product that there is not; an amount; whose the accounts are; the phase; a figure of a trade or a close; what
+// would pass its range: a position, what an account holds, the limit, what another account holds, the house.
 #[derive(Clone, Copy)]
-struct Refusal {
-    line: usize,
-    n: usize,
-    p: usize,
-    number: u64,
+enum Reason {
+    NoAccount,
+    NoProduct,
+    Amount,
+    Whose,
+    Phase,
+    Figure,
+    Position,
+    Gross,
+    Limit,
+    GrossOf,
+    House,
+}
+
+// By the number of a reply; 0 is the number of a call that was not refused.
+impl TryFrom<i64> for Reason {
+    type Error = i64;
+
+    fn try_from(number: i64) -> Result<Reason, i64> {
+        match number {
+            3 => Ok(Reason::NoAccount),
+            4 => Ok(Reason::NoProduct),
+            5 => Ok(Reason::Amount),
+            6 => Ok(Reason::Whose),
+            7 => Ok(Reason::Phase),
+            8 => Ok(Reason::Figure),
+            9 => Ok(Reason::Position),
+            10 => Ok(Reason::Gross),
+            11 => Ok(Reason::Limit),
+            12 => Ok(Reason::GrossOf),
+            13 => Ok(Reason::House),
+            other => Err(other),
+        }
+    }
+}
+
+// Where in the run a call stands (RULES, 3.2): outside a run, where a close may be done since the last begin; or within one, with some transfers done.
+#[derive(Clone, Copy)]
+enum Stage {
+    Outside { closed: bool },
+    Run { transfers: usize },
+}
+
+impl Stage {
+    // The stage behind a call that was not refused.
+    fn after(self, call: Call) -> Stage {
+        match (call, self) {
+            (Call::Begin, _) => Stage::Run { transfers: 0 },
+            (Call::Step, Stage::Run { transfers }) => Stage::Run {
+                transfers: transfers.saturating_add(1),
+            },
+            (Call::Close, _) => Stage::Outside { closed: true },
+            _ => self,
+        }
+    }
+}
+
+// A call's reply: its number, and the figure behind it.
+#[derive(Clone, Copy)]
+struct Reply {
+    number: i64,
     figure: i64,
-    stage: Stage,
+}
+
+impl Reply {
+    fn of(line: &[u8]) -> Reply {
+        let number = lines::field_at(line, 0, b' ');
+        Reply {
+            number: number.value,
+            figure: lines::field_at(line, number.next, b'\n').value,
+        }
+    }
 }
 
 // ---- reasons
 
-// A reason with one figure.
-fn say_with(out: &mut [u8], at: usize, words: &[u8], n: u64) -> usize {
-    let counts = [n as usize];
-    say::form(out, at, words, &counts, 0)
-}
-
-// `no such account: they are 0 to 3`
-fn say_none(out: &mut [u8], at: usize, words: &[u8], count: usize) -> usize {
-    if count == 0 {
-        return at;
-    }
-    say_with(out, at, words, (count - 1) as u64)
-}
-
 // 5: an amount, or a guarantee and its cap.
-fn say_amount(out: &mut [u8], at: usize, letter: u8) -> usize {
-    if letter == b'G' {
-        return say_with(
-            out,
-            at,
-            b"guarantee and cap must be 0 to #",
-            sizes::MOST_GUARANTEE as u64,
+fn say_amount(page: &mut Page, call: Call) -> fmt::Result {
+    if call == Call::Guarantee {
+        return write!(
+            page,
+            "guarantee and cap must be 0 to {}",
+            sizes::MOST_GUARANTEE
         );
     }
-    say_with(
-        out,
-        at,
-        b"the amount must be 1 to #",
-        sizes::MOST_AMOUNT as u64,
-    )
+    write!(page, "the amount must be 1 to {}", sizes::MOST_AMOUNT)
 }
 
 // 6: whose the accounts are.
-fn say_whose(out: &mut [u8], at: usize, letter: u8) -> usize {
-    if letter == b'G' {
-        return say::word(out, at, b"an L has no guarantee");
+fn whose(call: Call) -> &'static str {
+    if call == Call::Guarantee {
+        return "an L has no guarantee";
     }
-    say::word(out, at, b"a trade is between one F and one L")
+    "a trade is between one F and one L"
 }
 
-// 7 outside a run. Behind a close a begin is not asked for: it would move the dues of another day.
-fn say_outside(out: &mut [u8], at: usize, letter: u8, closed: bool) -> usize {
-    if closed {
-        return say::word(
-            out,
-            at,
-            b"the day is closed already: a B here would start another day",
-        );
-    }
-    if letter == b'S' {
-        return say::word(out, at, b"the run has not begun: B comes before S");
-    }
-    say::word(
-        out,
-        at,
-        b"the run has not begun: B and then one S for each account come before C",
-    )
-}
-
-// 7: the phase.
-fn say_phase(out: &mut [u8], at: usize, letter: u8, n: usize, t: Stage) -> usize {
-    let phase = t.phase;
-    if phase == 0 {
-        return say_outside(out, at, letter, t.closed);
-    }
-    if letter == b'B' {
-        return say::word(
-            out,
-            at,
-            b"the run has begun already, and no close is done since",
-        );
-    }
-    if letter == b'S' {
-        return say::word(
-            out,
-            at,
-            b"every account has had its transfer, and no close is done since",
-        );
-    }
-    let counts = [phase - 1, n];
-    say::form(
-        out,
-        at,
-        b"# of # accounts have had their transfer: one S for each comes before C",
-        &counts,
-        0,
-    )
+// 7: the phase. Behind a close a begin is not asked for: it would move the dues of another day.
+fn say_phase(page: &mut Page, call: Call, n: usize, stage: Stage) -> fmt::Result {
+    let words = match (stage, call) {
+        (Stage::Outside { closed: true }, _) =>
+            "the day is closed already: a B here would start another day",
+        (Stage::Outside { .. }, Call::Step) => "the run has not begun: B comes before S",
+        (Stage::Outside { .. }, _) =>
+            "the run has not begun: B and then one S for each account come before C",
+        (_, Call::Begin) => "the run has begun already, and no close is done since",
+        (_, Call::Step) => "every account has had its transfer, and no close is done since",
+        (Stage::Run { transfers }, _) => return write!(
+            page,
+            "{transfers} of {n} accounts have had their transfer: one S for each comes before C"
+        ),
+    };
+    page.write_str(words)
 }
 
 // 9 and more: what would pass its range, or the limit.
-fn say_passed(out: &mut [u8], at: usize, number: u64, figure: i64) -> usize {
-    let gross = [sizes::MOST_GROSS as usize];
-    match number {
-        9 => {
-            let most = [
-                sizes::MOST_LOTS as usize,
-                sizes::MOST_YEN_BOOK as usize,
-                sizes::MOST_CROSS_BOOK as usize,
-            ];
-            say::form(
-                out,
-                at,
-                b"a position would pass # lots, or its book #, of a cross #",
-                &most,
-                0,
-            )
-        }
-        10 => say_with(
-            out,
-            at,
-            b"cash and dues, without their signs, would add to more than #",
-            sizes::MOST_GROSS,
+fn say_passed(page: &mut Page, reason: Reason, figure: i64) -> fmt::Result {
+    match reason {
+        Reason::Gross => write!(
+            page,
+            "cash and dues, without their signs, would add to more than {}",
+            sizes::MOST_GROSS
         ),
-        11 => say::form(out, at, b"above the limit of @", &gross, figure),
-        12 => say::form(
-            out,
-            at,
-            b"cash and dues, without their signs, of account @ would add to more than #",
-            &gross,
-            figure,
+        Reason::Limit => write!(page, "above the limit of {figure}"),
+        Reason::GrossOf => write!(
+            page,
+            "cash and dues, without their signs, of account {figure} would add to more than {}",
+            sizes::MOST_GROSS
         ),
-        _ => say_with(
-            out,
-            at,
-            b"house would pass # above or below 0 on the way",
-            sizes::MOST_HOUSE,
+        Reason::House => write!(
+            page,
+            "house would pass {} above or below 0 on the way",
+            sizes::MOST_HOUSE
+        ),
+        _ => write!(
+            page,
+            "a position would pass {} lots, or its book {}, of a cross {}",
+            sizes::MOST_LOTS,
+            sizes::MOST_YEN_BOOK,
+            sizes::MOST_CROSS_BOOK
         ),
     }
 }
 
+// A refused call: its line, what it is by its letter, where in the run it stands, and why it was refused.
+#[derive(Clone, Copy)]
+struct Refusal<'a> {
+    line: &'a [u8],
+    call: Call,
+    stage: Stage,
+    reason: Reason,
+    reply: Reply,
+}
+
 // The reason of a refusal.
-fn say_reason(text: &[u8], at: usize, r: Refusal, out: &mut [u8], put: usize) -> usize
-    requires { at < length text.now }
-{
-    let letter = text[at];
-    let number = r.number;
-    match number {
-        3 => say_none(out, put, b"no such account: they are 0 to #", r.n),
-        4 => say_none(out, put, b"no such product: they are 0 to #", r.p),
-        5 => say_amount(out, put, letter),
-        6 => say_whose(out, put, letter),
-        7 => say_phase(out, put, letter, r.n, r.stage),
-        8 => ranges::say_first(text, at, r.p, out, put),
-        _ => say_passed(out, put, number, r.figure),
+fn say_reason(page: &mut Page, day: Day, refusal: Refusal) -> fmt::Result {
+    let n = day.contents.accounts;
+    let p = day.contents.products;
+    match refusal.reason {
+        Reason::NoAccount => write!(
+            page,
+            "no such account: they are 0 to {}",
+            n.saturating_sub(1)
+        ),
+        Reason::NoProduct => write!(
+            page,
+            "no such product: they are 0 to {}",
+            p.saturating_sub(1)
+        ),
+        Reason::Amount => say_amount(page, refusal.call),
+        Reason::Whose => page.write_str(whose(refusal.call)),
+        Reason::Phase => say_phase(page, refusal.call, n, refusal.stage),
+        Reason::Figure => ranges::say_first(page, day, refusal.line),
+        reason => say_passed(page, reason, refusal.reply.figure),
     }
 }
 
 // ---- the calls
 
-// What is said of a call by its reply, `line 18: W 1 50000 refused, 11: above the limit of 0`; nothing, where it was not refused.
-fn say_refusal(text: &[u8], at: usize, r: Refusal, out: &mut [u8], put: usize) -> usize
-    requires { at < length text.now }
-{
-    if r.number == 0 {
-        return put;
-    }
-    let end = marks::line_end(text, at);
-    let a = say_with(out, put, b"line #: ", r.line as u64);
-    let b = say::word(out, a, &text[at..end]);
-    let d = say_with(out, b, b" refused, #: ", r.number);
-    let e = say_reason(text, at, r, out, d);
-    say::word(out, e, b"\n")
+// What is said of a refused call: `line 18: W 1 50000 refused, 11: above the limit of 0`
+fn say_refusal(page: &mut Page, day: Day, number: usize, refusal: Refusal) -> fmt::Result {
+    write!(page, "line {number}: ")?;
+    page.put(refusal.line.strip_suffix(b"\n").unwrap_or(refusal.line))?;
+    write!(page, " refused, {}: ", refusal.reply.number)?;
+    say_reason(page, day, refusal)?;
+    page.write_str("\n")
 }
 
-// The stage behind a call. A day starts outside a run, with no close done.
-fn stage_after(t: Stage, letter: u8, number: u64) -> Stage {
-    let phase = t.phase;
-    let closed = t.closed;
-    if number > 0 {
-        return Stage { phase, closed };
-    }
-    match letter {
-        b'B' => Stage {
-            phase: 1,
-            closed: false,
-        },
-        b'S' => Stage {
-            phase: sections::after(phase),
-            closed,
-        },
-        b'C' => Stage {
-            phase: 0,
-            closed: true,
-        },
-        _ => Stage { phase, closed },
-    }
-}
-
-// One more, where a reply's number says that its call was refused.
-fn counted(refused: usize, number: i64) -> usize {
-    if number == 0 {
-        return refused;
-    }
-    sections::after(refused)
-}
-
-// How many of `count` calls a sheet refuses; their replies start at a place.
-fn refused(sheet: &[u8], from: usize, count: usize) -> usize {
-    let mut at = from;
-    let mut refused = 0;
-    let mut left = count;
-    while left > 0 {
-        let number = lines::field_at(sheet, at, b' ');
-        let next = number.next;
-        let figure = lines::field_at(sheet, next, b'\n');
-        refused = counted(refused, number.value);
-        at = figure.next;
-        left -= 1;
-    }
-    refused
-}
-
-// The refused calls, one behind another: from a place of the text and of the sheet on.
-fn say_refused(
-    text: &[u8],
-    from: usize,
-    first: usize,
-    n: usize,
-    p: usize,
-    sheet: &[u8],
-    replies: usize,
-    out: &mut [u8],
-    start: usize,
-) -> usize {
-    let mut put = start;
-    let mut at = from;
-    let mut reply = replies;
-    let mut line = first;
-    let mut stage = Stage {
-        phase: 0,
-        closed: false,
+// What is said of a call, by its reply, if it was refused; and the stage behind it.
+fn say_call(
+    page: &mut Page,
+    day: Day,
+    number: usize,
+    line: &[u8],
+    stage: Stage,
+    reply: Reply,
+) -> Result<Stage, fmt::Error> {
+    let Ok(call) = Call::try_from(lines::byte_at(line, 0)) else {
+        return Ok(stage);
     };
-    while at < text.len() {
-        let told = lines::field_at(sheet, reply, b' ');
-        let next = told.next;
-        let figure = lines::field_at(sheet, next, b'\n');
-        let number = whole::nat_abs(told.value);
-        let r = Refusal {
-            line,
-            n,
-            p,
-            number,
-            figure: figure.value,
-            stage,
-        };
-        put = say_refusal(text, at, r, out, put);
-        stage = stage_after(stage, text[at], number);
-        reply = figure.next;
-        at = super::next_line(text, at);
-        line = sections::after(line);
-    }
-    put
+    let Ok(reason) = Reason::try_from(reply.number) else {
+        return Ok(stage.after(call));
+    };
+    let refusal = Refusal {
+        line,
+        call,
+        stage,
+        reason,
+        reply,
+    };
+    say_refusal(page, day, number, refusal)?;
+    Ok(stage)
 }
 
-// How many of how many.
-fn tell_count(some: usize, all: usize, out: &mut [u8]) -> usize {
-    let counts = [some, all];
-    if some == 1 {
-        return say::form(out, 0, b"# of # calls was refused\n", &counts, 0);
+// The refused calls, one behind another. A day starts outside a run, with no close done.
+fn say_each(page: &mut Page, day: Day, replies: &[u8]) -> fmt::Result {
+    let calls = day
+        .text
+        .split_inclusive(|b| *b == b'\n')
+        .skip(Section::Calls.lines_before(day.contents));
+    let mut stage = Stage::Outside { closed: false };
+    for (i, (line, reply)) in calls
+        .zip(replies.split_inclusive(|b| *b == b'\n'))
+        .enumerate()
+    {
+        let number = Section::Calls.line_number(day.contents, i);
+        stage = say_call(page, day, number, line, stage, Reply::of(reply))?;
     }
-    say::form(out, 0, b"# of # calls were refused\n", &counts, 0)
+    Ok(())
 }
 
-// How many of how many, and each of them.
-fn tell_by(text: &[u8], c: Contents, sheet: &[u8], replies: usize, out: &mut [u8]) -> usize {
-    let k = c.calls;
-    let some = refused(sheet, replies, k);
+// How many of the calls a sheet refuses, by their replies.
+fn refused(replies: &[u8], calls: usize) -> usize {
+    replies
+        .split_inclusive(|b| *b == b'\n')
+        .take(calls)
+        .filter(|reply| Reply::of(reply).number != 0)
+        .count()
+}
+
+// What is told of a good text: how many calls of how many were refused, and each of them; nothing where none was.
+pub fn say(page: &mut Page, day: Day, replies: &[u8]) -> fmt::Result {
+    let all = day.contents.calls;
+    let some = refused(replies, all);
     if some == 0 {
-        return 0;
+        return Ok(());
     }
-    let p = c.products;
-    let n = c.accounts;
-    let m = c.positions;
-    let first = sections::plus(sections::plus(sections::plus(sections::FIRST, p), n), m);
-    let at = super::line_start(text, first);
-    let put = tell_count(some, k, out);
-    say_refused(text, at, first, n, p, sheet, replies, out, put)
-}
-
-// What is told of a good text; 0 where no call was refused.
-pub fn tell(text: &[u8], sheet: &[u8], out: &mut [u8]) -> usize
-    ensures { result ≤ length out.new }
-{
-    let replies = lines::past_word(sheet, 0, b"FXSHEET\n");
-    if replies == LOST {
-        return 0;
-    }
-    let c = dayfile::read_contents(text);
-    let end = tell_by(text, c, sheet, replies, out);
-    say::word(out, end, b"")
+    let were = if some == 1 { "was" } else { "were" };
+    write!(page, "{some} of {all} calls {were} refused\n")?;
+    say_each(page, day, replies)
 }

@@ -1,39 +1,72 @@
 // The sections behind the table of contents: which one a line stands in by the counts, which one it looks like, and what is told where the two are
 // not the same.
+use super::table;
 use dayfile::Contents;
-use faults::{figures, marks, say};
+use faults::figures;
+use faults::page::Page;
+use std::fmt;
+use std::fmt::Write;
 
-// The sections, in their order; what is of none of them stands behind the last.
-pub const PRODUCTS: usize = 0;
-
-pub const ACCOUNTS: usize = 1;
-
-pub const POSITIONS: usize = 2;
-
-pub const CALLS: usize = 3;
-
-pub const NONE: usize = 4;
-
-// The number of the first line behind the table.
-pub const FIRST: usize = 7;
-
-// No line has a number as large as this, so that sums below need not be looked at.
-const FAR: usize = 4611686018427387904;
-
-// One more.
-pub fn after(n: usize) -> usize {
-    if n < FAR { n + 1 } else { n }
+// The sections, in their order.
+#[derive(Clone, Copy, PartialEq, Eq, PartialOrd, Ord)]
+pub enum Section {
+    Products,
+    Accounts,
+    Positions,
+    Calls,
 }
 
-// Two numbers of lines together.
-pub fn plus(a: usize, b: usize) -> usize {
-    if a > FAR {
-        return FAR;
+impl Section {
+    // The word that states its count.
+    pub fn title(self) -> &'static str {
+        match self {
+            Section::Products => "PRODUCTS",
+            Section::Accounts => "ACCOUNTS",
+            Section::Positions => "POSITIONS",
+            Section::Calls => "CALLS",
+        }
     }
-    if b > FAR {
-        return FAR;
+
+    // What its lines are of.
+    fn subject(self) -> &'static str {
+        match self {
+            Section::Products => "product",
+            Section::Accounts => "account",
+            Section::Positions => "position",
+            Section::Calls => "call",
+        }
     }
-    a + b
+
+    // How many lines of it the table states.
+    pub fn count(self, contents: Contents) -> usize {
+        match self {
+            Section::Products => contents.products,
+            Section::Accounts => contents.accounts,
+            Section::Positions => contents.positions,
+            Section::Calls => contents.calls,
+        }
+    }
+
+    // How many lines stand before it.
+    pub fn lines_before(self, contents: Contents) -> usize {
+        let p = contents.products;
+        let n = contents.accounts;
+        let m = contents.positions;
+        let behind_table = match self {
+            Section::Products => 0,
+            Section::Accounts => p,
+            Section::Positions => p.saturating_add(n),
+            Section::Calls => p.saturating_add(n).saturating_add(m),
+        };
+        behind_table.saturating_add(table::LINES)
+    }
+
+    // The number of its i-th line, from 0.
+    pub fn line_number(self, contents: Contents, i: usize) -> usize {
+        self.lines_before(contents)
+            .saturating_add(i)
+            .saturating_add(1)
+    }
 }
 
 // ---- which section
@@ -41,191 +74,97 @@ pub fn plus(a: usize, b: usize) -> usize {
 // A section, how many lines of it the table states, and which one of them a line is, from 1.
 #[derive(Clone, Copy)]
 pub struct Slot {
-    pub section: usize,
-    pub says: usize,
-    pub nth: usize,
+    pub section: Section,
+    says: usize,
+    nth: usize,
 }
 
-// The number of a line behind the table, from 0.
-pub fn behind(line: usize) -> usize {
-    if line < FIRST { 0 } else { line - FIRST }
-}
-
-// The section of such a line, by its number there.
-pub fn slot_of(c: Contents, i: usize) -> Slot {
-    let p = c.products;
-    let n = c.accounts;
-    let m = c.positions;
-    let k = c.calls;
-    if i < p {
-        return Slot {
-            section: PRODUCTS,
-            says: p,
-            nth: after(i),
-        };
-    }
-    if i - p < n {
-        return Slot {
-            section: ACCOUNTS,
-            says: n,
-            nth: after(i - p),
-        };
-    }
-    if i - p - n < m {
-        return Slot {
-            section: POSITIONS,
-            says: m,
-            nth: after(i - p - n),
-        };
-    }
-    if i - p - n - m < k {
-        return Slot {
-            section: CALLS,
-            says: k,
-            nth: after(i - p - n - m),
-        };
-    }
-    Slot {
-        section: NONE,
-        says: k,
-        nth: k,
-    }
-}
-
-// Whether a capital stands in a line from a place on.
-pub fn has_capital(text: &[u8], from: usize) -> bool {
-    let mut at = from;
-    while at < text.len() {
-        let b = text[at];
-        if b == b'\n' {
-            return false;
+// The slot of a line behind the table; none behind the last call.
+pub fn slot_of(contents: Contents, number: usize) -> Option<Slot> {
+    let mut before = number.saturating_sub(table::LINES + 1);
+    for section in [
+        Section::Products,
+        Section::Accounts,
+        Section::Positions,
+        Section::Calls,
+    ] {
+        let says = section.count(contents);
+        if before < says {
+            let nth = before + 1;
+            return Some(Slot { section, says, nth });
         }
-        if marks::is_capital(b) {
-            return true;
-        }
-        at += 1;
+        before -= says;
     }
-    false
+    None
+}
+
+// Whether a capital stands in a line.
+pub fn has_capital(line: &[u8]) -> bool {
+    line.iter().any(|b| b.is_ascii_uppercase())
 }
 
 // The section that a line looks like: by its letter and what must stand behind that, or by four figures.
-pub fn section_of(text: &[u8], at: usize) -> usize {
-    let first = lines::byte_at(text, at);
-    if !marks::is_capital(first) {
-        if figures::fields(text, at) == 4 && !has_capital(text, at) {
-            return POSITIONS;
-        }
-        return NONE;
-    }
-    if lines::word_at(text, at, b"B\n") || lines::word_at(text, at, b"S\n") {
-        return CALLS;
-    }
-    if lines::word_at(text, after(at), b" ") {
-        return match first {
-            b'Y' | b'X' => PRODUCTS,
-            b'F' | b'L' => ACCOUNTS,
-            b'D' | b'W' | b'G' | b'T' | b'C' => CALLS,
-            _ => NONE,
-        };
-    }
-    NONE
-}
-
-// How many lines of a section the table states.
-pub fn says_of(c: Contents, section: usize) -> usize {
-    match section {
-        PRODUCTS => c.products,
-        ACCOUNTS => c.accounts,
-        POSITIONS => c.positions,
-        _ => c.calls,
+pub fn looks_like(line: &[u8]) -> Option<Section> {
+    match (lines::byte_at(line, 0), lines::byte_at(line, 1)) {
+        (b'B' | b'S', b'\n') => Some(Section::Calls),
+        (b'Y' | b'X', b' ') => Some(Section::Products),
+        (b'F' | b'L', b' ') => Some(Section::Accounts),
+        (b'D' | b'W' | b'G' | b'T' | b'C', b' ') => Some(Section::Calls),
+        _ if !has_capital(line) && figures::fields(line) == 4 => Some(Section::Positions),
+        _ => None,
     }
 }
 
 // ---- counts
 
-// `line 10: ACCOUNTS says 3, line 10 is the 3rd account line, `
-pub fn say_slot(line: usize, section: usize, says: usize, nth: usize, out: &mut [u8]) -> usize {
-    let counts = [line, says, line, nth];
-    match section {
-        PRODUCTS => say::form(
-            out,
-            0,
-            b"line #: PRODUCTS says #, line # is the ^ product line, ",
-            &counts,
-            0,
-        ),
-        ACCOUNTS => say::form(
-            out,
-            0,
-            b"line #: ACCOUNTS says #, line # is the ^ account line, ",
-            &counts,
-            0,
-        ),
-        POSITIONS => say::form(
-            out,
-            0,
-            b"line #: POSITIONS says #, line # is the ^ position line, ",
-            &counts,
-            0,
-        ),
-        _ => say::form(
-            out,
-            0,
-            b"line #: CALLS says #, line # is the ^ call line, ",
-            &counts,
-            0,
-        ),
+// A number that stands in a row: 1st, 2nd, 3rd, 4th, 11th.
+#[derive(Clone, Copy)]
+struct Nth(usize);
+
+impl fmt::Display for Nth {
+    fn fmt<W: fmt::Write>(&self, f: &mut fmt::Formatter<W>) -> fmt::Result {
+        let n = self.0;
+        let ending = match (n / 10 % 10, n % 10) {
+            (1, _) => "th",
+            (_, 1) => "st",
+            (_, 2) => "nd",
+            (_, 3) => "rd",
+            _ => "th",
+        };
+        write!(f, "{n}{ending}")
     }
+}
+
+// `line 10: ACCOUNTS says 3, line 10 is the 3rd account line, `
+pub fn say_slot(page: &mut Page, number: usize, slot: Slot) -> fmt::Result {
+    let title = slot.section.title();
+    let says = slot.says;
+    let nth = Nth(slot.nth);
+    let subject = slot.section.subject();
+    write!(
+        page,
+        "line {number}: {title} says {says}, line {number} is the {nth} {subject} line, "
+    )
 }
 
 // A section that ends early: a line of a later one stands where one of it is stated.
-pub fn tell_early(
-    line: usize,
-    section: usize,
-    says: usize,
-    nth: usize,
-    looks: usize,
-    out: &mut [u8],
-) -> usize {
-    let a = say_slot(line, section, says, nth, out);
-    match looks {
-        ACCOUNTS => say::word(out, a, b"but an account line stands there"),
-        POSITIONS => say::word(out, a, b"but a position line stands there"),
-        _ => say::word(out, a, b"but a call line stands there"),
-    }
+pub fn say_early(page: &mut Page, number: usize, slot: Slot, looks: Section) -> fmt::Result {
+    say_slot(page, number, slot)?;
+    let article = if looks == Section::Accounts {
+        "an"
+    } else {
+        "a"
+    };
+    let subject = looks.subject();
+    write!(page, "but {article} {subject} line stands there")
 }
 
 // A section that goes on: a line of it stands behind those that the table states.
-pub fn tell_more(line: usize, section: usize, says: usize, out: &mut [u8]) -> usize {
-    let counts = [line, says, line];
-    match section {
-        PRODUCTS => say::form(
-            out,
-            0,
-            b"line #: PRODUCTS says #, and line # is one more product line",
-            &counts,
-            0,
-        ),
-        ACCOUNTS => say::form(
-            out,
-            0,
-            b"line #: ACCOUNTS says #, and line # is one more account line",
-            &counts,
-            0,
-        ),
-        POSITIONS => say::form(
-            out,
-            0,
-            b"line #: POSITIONS says #, and line # is one more position line",
-            &counts,
-            0,
-        ),
-        _ => say::form(
-            out,
-            0,
-            b"line #: CALLS says #, and line # is one more call line",
-            &counts,
-            0,
-        ),
-    }
+pub fn say_more(page: &mut Page, number: usize, section: Section, says: usize) -> fmt::Result {
+    let title = section.title();
+    let subject = section.subject();
+    write!(
+        page,
+        "line {number}: {title} says {says}, and line {number} is one more {subject} line"
+    )
 }

@@ -5,15 +5,19 @@ ghost use Rattle.places.specs.Act.{most_words};
 ghost use Rattle.dayfile.specs.InsideDayfile.{Modest};
 ghost use Rattle.dayfile.specs.Table.{ledger_shape};
 
-use super::{bodies, ranges, sections};
-use clauses::{Clause, Failing};
+use super::ranges::Ranged;
+use super::sections::Section;
+use super::{Day, bodies, ranges};
+use clauses::{Failing, numbers};
 use dayfile::Contents;
-use faults::{figures, say};
+use faults::page::Page;
 use places::Shape;
 use rules::sizes;
+use std::fmt;
+use std::fmt::Write;
 
-// What fails first, by way of words that are all 0.
-fn failing_in(text: &[u8], c: Contents, words: &mut [i64]) -> Option<Failing>
+// The clause, by way of words that are all 0.
+fn failing_in(text: &[u8], c: Contents, words: &mut [i64]) -> Failing
     requires { (Modest c) × (words.old ≡ replicate (words_of (ledger_shape c)) (pos 0)) }
 {
     dayfile::bodies_into(text, c, words);
@@ -21,7 +25,7 @@ fn failing_in(text: &[u8], c: Contents, words: &mut [i64]) -> Option<Failing>
 }
 
 // The same, by way of words for the largest ledger.
-fn failing_by(text: &[u8], words: &mut [i64]) -> Option<Failing>
+fn failing_by(text: &[u8], words: &mut [i64]) -> Failing
     requires { words.old ≡ replicate most_words (pos 0) }
 {
     let c = dayfile::read_contents(text);
@@ -36,154 +40,136 @@ fn failing_by(text: &[u8], words: &mut [i64]) -> Option<Failing>
 // ---- in words
 
 // A figure that is out of its range: `line 8, figure 2: the guarantee is 5 and must be 0 to 7`
-fn tell_range(
-    line: usize,
-    k: usize,
-    name: &[u8],
-    figure: i64,
-    least: usize,
-    most: u64,
-    out: &mut [u8],
-) -> usize {
-    let a = figures::say_where(line, k, out);
-    ranges::say_range(out, a, name, figure, least, most)
-}
-
-// The same, of one that may be as far below 0.
-fn tell_size(line: usize, k: usize, name: &[u8], figure: i64, most: u64, out: &mut [u8]) -> usize {
-    let a = figures::say_where(line, k, out);
-    let b = say::word(out, a, name);
-    let counts = [most as usize, most as usize];
-    say::form(out, b, b" is @ and must be -# to #", &counts, figure)
+fn say_ranged(page: &mut Page, number: usize, nth: usize, ranged: Ranged) -> fmt::Result {
+    write!(page, "line {number}, figure {nth}: {ranged}")
 }
 
 // A product's mark, price, or the two that a cross names.
-fn tell_product(text: &[u8], line: usize, f: Failing, out: &mut [u8]) -> usize {
-    match f.clause {
-        Clause::Mark => tell_range(line, 1, b"the floor mark", f.figure, 0, 1, out),
-        Clause::Price => {
-            let a = figures::say_where(line, 2, out);
-            ranges::say_price(out, a, ranges::kind_at(text, line), f.figure)
+fn say_product(page: &mut Page, day: Day, failing: Failing) -> fmt::Result {
+    let number = Section::Products.line_number(day.contents, failing.product);
+    let figure = failing.figure;
+    match failing.clause {
+        numbers::MARK => {
+            let mark = Ranged {
+                name: "the floor mark",
+                figure,
+                least: 0,
+                most: 1,
+            };
+            say_ranged(page, number, 1, mark)
         }
-        _ => {
-            let counts = [line];
-            say::form(
-                out,
-                0,
-                b"line #: a cross names two different yen products of lower number, its principal's and its quote's",
-                &counts,
-                0,
-            )
+        numbers::PRICE => {
+            let kind = ranges::kind_of(day, failing.product);
+            say_ranged(page, number, 2, ranges::price(kind, figure))
         }
+        _ => write!(
+            page,
+            "line {number}: a cross names two different yen products of lower number, its principal's and its quote's"
+        ),
     }
 }
 
 // A guarantee or cap: an L has none.
-fn tell_guarantee(text: &[u8], line: usize, f: Failing, out: &mut [u8]) -> usize {
-    let at = super::line_start(text, line);
-    if lines::word_at(text, at, b"L") {
-        let counts = [line];
-        return say::form(out, 0, b"line #: an L has guarantee and cap 0", &counts, 0);
-    }
-    let most = sizes::MOST_GUARANTEE as u64;
-    match f.clause {
-        Clause::Cap => tell_range(line, 3, b"the cap", f.figure, 0, most, out),
-        _ => tell_range(line, 2, b"the guarantee", f.figure, 0, most, out),
+fn say_guarantee(
+    page: &mut Page,
+    day: Day,
+    number: usize,
+    nth: usize,
+    guarantee: Ranged,
+) -> fmt::Result {
+    match day.line(number) {
+        Some(line) if line.starts_with(b"L") => write!(
+            page,
+            "line {number}: an L has guarantee and cap 0"
+        ),
+        _ => say_ranged(page, number, nth, guarantee),
     }
 }
 
 // An account's guarantee, cap, initial margin or gross.
-fn tell_account(text: &[u8], line: usize, f: Failing, out: &mut [u8]) -> usize {
-    match f.clause {
-        Clause::Margin => tell_range(
-            line,
-            4,
-            b"the initial margin",
-            f.figure,
-            0,
-            sizes::MOST_MARGIN as u64,
-            out,
+fn say_account(page: &mut Page, day: Day, failing: Failing) -> fmt::Result {
+    let number = Section::Accounts.line_number(day.contents, failing.account);
+    let figure = failing.figure;
+    match failing.clause {
+        numbers::GUARANTEE => {
+            let guarantee = Ranged {
+                name: "the guarantee",
+                figure,
+                least: 0,
+                most: sizes::MOST_GUARANTEE,
+            };
+            say_guarantee(page, day, number, 2, guarantee)
+        }
+        numbers::CAP => {
+            let cap = Ranged {
+                name: "the cap",
+                figure,
+                least: 0,
+                most: sizes::MOST_GUARANTEE,
+            };
+            say_guarantee(page, day, number, 3, cap)
+        }
+        numbers::MARGIN => {
+            let margin = Ranged {
+                name: "the initial margin",
+                figure,
+                least: 0,
+                most: sizes::MOST_MARGIN,
+            };
+            say_ranged(page, number, 4, margin)
+        }
+        _ => write!(
+            page,
+            "line {number}: cash and the three dues, each without its sign, add to more than {}",
+            sizes::MOST_GROSS
         ),
-        Clause::Gross => {
-            let counts = [line, sizes::MOST_GROSS as usize];
-            say::form(
-                out,
-                0,
-                b"line #: cash and the three dues, each without its sign, add to more than #",
-                &counts,
-                0,
+    }
+}
+
+// A position's lots or book.
+fn say_position(page: &mut Page, day: Day, failing: Failing) -> fmt::Result {
+    let Some(number) = bodies::stated_line(day, failing.account, failing.product) else {
+        return Ok(());
+    };
+    let figure = failing.figure;
+    if failing.clause == numbers::LOTS {
+        let lots = Ranged {
+            name: "the number of lots",
+            figure,
+            least: -sizes::MOST_LOTS,
+            most: sizes::MOST_LOTS,
+        };
+        return say_ranged(page, number, 3, lots);
+    }
+    let most = rules::products::most_book(ranges::kind_of(day, failing.product)) as i64;
+    let book = Ranged {
+        name: "the book",
+        figure,
+        least: -most,
+        most,
+    };
+    say_ranged(page, number, 4, book)
+}
+
+// What is not sound, of a text whose lines are good: of a product, an account or a position, on its line; of a product whose lots do not add to zero; or
+// what no day file states.
+pub fn say(page: &mut Page, day: Day) -> fmt::Result {
+    let mut words = [0i64; places::MOST_WORDS];
+    let failing = failing_by(day.text, &mut words);
+    match failing.clause {
+        numbers::MARK | numbers::PRICE | numbers::PAIR => say_product(page, day, failing),
+        numbers::GUARANTEE | numbers::CAP | numbers::MARGIN | numbers::GROSS => say_account(
+            page, day, failing,
+        ),
+        numbers::LOTS | numbers::BOOK => say_position(page, day, failing),
+        numbers::BALANCE => {
+            let product = failing.product;
+            let sum = failing.figure;
+            write!(
+                page,
+                "product {product}: its lots add to {sum} over the accounts, not 0"
             )
         }
-        _ => tell_guarantee(text, line, f, out),
+        _ => page.write_str("the ledger that the text states is not sound"),
     }
-}
-
-// A position's lots or book, by its line and its product's.
-fn tell_position(text: &[u8], line: usize, of: usize, f: Failing, out: &mut [u8]) -> usize {
-    match f.clause {
-        Clause::Lots => tell_size(
-            line,
-            3,
-            b"the number of lots",
-            f.figure,
-            sizes::MOST_LOTS as u64,
-            out,
-        ),
-        _ => {
-            let most = rules::products::most_book(ranges::kind_at(text, of));
-            tell_size(line, 4, b"the book", f.figure, most, out)
-        }
-    }
-}
-
-// A product whose lots do not add to zero.
-fn tell_balance(f: Failing, out: &mut [u8]) -> usize {
-    let counts = [f.product];
-    say::form(
-        out,
-        0,
-        b"product #: its lots add to @ over the accounts, not 0",
-        &counts,
-        f.figure,
-    )
-}
-
-// What no day file states.
-fn tell_other(out: &mut [u8]) -> usize {
-    say::word(out, 0, b"the ledger that the text states is not sound")
-}
-
-// A clause by the lines that it may speak of: its product's, its account's, its position's.
-fn tell_failing(
-    text: &[u8],
-    f: Failing,
-    product: usize,
-    account: usize,
-    position: usize,
-    out: &mut [u8],
-) -> usize {
-    match f.clause {
-        Clause::Mark | Clause::Price | Clause::Pair => tell_product(text, product, f, out),
-        Clause::Guarantee | Clause::Cap | Clause::Margin | Clause::Gross => {
-            tell_account(text, account, f, out)
-        }
-        Clause::Lots | Clause::Book => tell_position(text, position, product, f, out),
-        Clause::Balance => tell_balance(f, out),
-        _ => tell_other(out),
-    }
-}
-
-// What is not sound, of a text whose lines are good.
-pub fn tell(text: &[u8], out: &mut [u8]) -> usize {
-    let mut words = [0i64; places::MOST_WORDS];
-    let Some(f) = failing_by(text, &mut words) else {
-        return tell_other(out);
-    };
-    let c = dayfile::read_contents(text);
-    let p = c.products;
-    let n = c.accounts;
-    let product = sections::plus(sections::FIRST, f.product);
-    let account = sections::plus(sections::plus(sections::FIRST, p), f.account);
-    let position = bodies::stated_line(text, p, n, f.account, f.product);
-    tell_failing(text, f, product, account, position, out)
 }

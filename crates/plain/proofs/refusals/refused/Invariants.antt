@@ -1,8 +1,0 @@
--- Each turn leaves a call less.
-use Rattle.plain.proofs.refusals.refused.Given as goal
-
-abbrev pub invariant-loop-left : goal.invariant-loop-left
-invariant-loop-left l = Unit {0}
-
-abbrev pub decreases-loop-left : goal.decreases-loop-left
-decreases-loop-left l = l.left
