@@ -153,33 +153,15 @@ fn say_phase(page: &mut Page, call: Call, n: usize, stage: Stage) -> fmt::Result
     page.write_str(words)
 }
 
-// 9 and more: what would pass its range, or the limit.
-fn say_passed(page: &mut Page, reason: Reason, figure: i64) -> fmt::Result {
-    match reason {
-        Reason::Gross => write!(
-            page,
-            "cash and dues, without their signs, would add to more than {}",
-            sizes::MOST_GROSS
-        ),
-        Reason::Limit => write!(page, "above the limit of {figure}"),
-        Reason::GrossOf => write!(
-            page,
-            "cash and dues, without their signs, of account {figure} would add to more than {}",
-            sizes::MOST_GROSS
-        ),
-        Reason::House => write!(
-            page,
-            "house would pass {} above or below 0 on the way",
-            sizes::MOST_HOUSE
-        ),
-        _ => write!(
-            page,
-            "a position would pass {} lots, or its book {}, of a cross {}",
-            sizes::MOST_LOTS,
-            sizes::MOST_YEN_BOOK,
-            sizes::MOST_CROSS_BOOK
-        ),
-    }
+// 9: a position.
+fn say_position(page: &mut Page) -> fmt::Result {
+    write!(
+        page,
+        "a position would pass {} lots, or its book {}, of a cross {}",
+        sizes::MOST_LOTS,
+        sizes::MOST_YEN_BOOK,
+        sizes::MOST_CROSS_BOOK
+    )
 }
 
 // A refused call: its line, what it is by its letter, where in the run it stands, and why it was refused.
@@ -195,23 +177,29 @@ struct Refusal<'a> {
 // The reason of a refusal.
 fn say_reason(page: &mut Page, day: Day, refusal: Refusal) -> fmt::Result {
     let n = day.contents.accounts;
-    let p = day.contents.products;
+    let last_account = n.saturating_sub(1);
+    let last_product = day.contents.products.saturating_sub(1);
+    let gross = sizes::MOST_GROSS;
+    let house = sizes::MOST_HOUSE;
+    let figure = refusal.reply.figure;
     match refusal.reason {
-        Reason::NoAccount => write!(
-            page,
-            "no such account: they are 0 to {}",
-            n.saturating_sub(1)
-        ),
-        Reason::NoProduct => write!(
-            page,
-            "no such product: they are 0 to {}",
-            p.saturating_sub(1)
-        ),
+        Reason::NoAccount => write!(page, "no such account: they are 0 to {last_account}"),
+        Reason::NoProduct => write!(page, "no such product: they are 0 to {last_product}"),
         Reason::Amount => say_amount(page, refusal.call),
         Reason::Whose => page.write_str(whose(refusal.call)),
         Reason::Phase => say_phase(page, refusal.call, n, refusal.stage),
         Reason::Figure => ranges::say_first(page, day, refusal.line),
-        reason => say_passed(page, reason, refusal.reply.figure),
+        Reason::Position => say_position(page),
+        Reason::Gross => write!(
+            page,
+            "cash and dues, without their signs, would add to more than {gross}"
+        ),
+        Reason::Limit => write!(page, "above the limit of {figure}"),
+        Reason::GrossOf => write!(
+            page,
+            "cash and dues, without their signs, of account {figure} would add to more than {gross}"
+        ),
+        Reason::House => write!(page, "house would pass {house} above or below 0 on the way"),
     }
 }
 
