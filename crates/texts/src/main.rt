@@ -3,23 +3,41 @@
 // beside them are read from standard input (`cases` says how); those of the largest day, and those saved by other habits, are made here.
 #![tactic(auto)]
 
-ghost use Rattle.std.specs.Prelude.{◌≤◌, ◌<◌, length, IfOk};
+ghost use Rattle.std.specs.Prelude.{◌≤◌, length, IfOk};
 
-use std::io;
+use faults::page::Page;
+use std::fmt::Write;
 use std::io::Read;
+use std::{fmt, io};
 
 mod cases;
 mod full;
 
 // How many texts were tried, and how many gave something else than expected.
-#[derive(Drop)]
+#[derive(Clone, Copy, Default)]
 struct Tally {
     texts: u64,
     wrong: u64,
 }
 
-fn none() -> Tally {
-    Tally { texts: 0, wrong: 0 }
+impl Tally {
+    // One text more, that gave something else or not.
+    fn count(&mut self, differs: bool) {
+        self.texts = self.texts.saturating_add(1);
+        self.wrong = self.wrong.saturating_add(u64::from(differs));
+    }
+
+    fn add(&mut self, other: Tally) {
+        self.texts = self.texts.saturating_add(other.texts);
+        self.wrong = self.wrong.saturating_add(other.wrong);
+    }
+}
+
+impl fmt::Display for Tally {
+    fn fmt<W: fmt::Write>(&self, f: &mut fmt::Formatter<W>) -> fmt::Result {
+        let Tally { texts, wrong } = *self;
+        write!(f, "{texts} texts, {wrong} differ")
+    }
 }
 
 // Whether the sheet of a text is another than the one expected.
@@ -36,170 +54,103 @@ fn tells_otherwise(text: &[u8], sheet: &[u8], expected: &[u8]) -> bool {
     &words[..size] != expected
 }
 
-// One more; no kind has a million texts.
-fn next(n: u64) -> u64 {
-    if n < 1000000 { n + 1 } else { n }
+// Whether either is.
+fn gives_otherwise(text: &[u8], sheet: &[u8], words: &[u8]) -> bool {
+    differs(text, sheet) || tells_otherwise(text, sheet, words)
 }
 
-// One text more, that gave something else or not.
-fn counted(t: Tally, other: bool) -> Tally {
-    let texts = next(t.texts);
-    let wrong = t.wrong;
-    if other {
-        return Tally {
-            texts,
-            wrong: next(wrong),
-        };
-    }
-    Tally { texts, wrong }
-}
-
-// One text more, with its sheet and what is told beside it.
-fn tried(t: Tally, text: &[u8], expected: &[u8], words: &[u8]) -> Tally {
-    if differs(text, expected) {
-        return counted(t, true);
-    }
-    counted(t, tells_otherwise(text, expected, words))
-}
-
-// Two tallies together.
-fn sum(a: u64, b: u64) -> u64 {
-    if a > 1000000 {
-        return a;
-    }
-    if b > 1000000 {
-        return b;
-    }
-    a + b
-}
-
-// A kind's line, and the tally of all kinds with it.
-fn told(rt: &impl Print, all: Tally, name: &[u8], t: Tally) -> io::Result<Tally> {
-    let texts = t.texts;
-    let wrong = t.wrong;
+// A kind's line; and its tally.
+fn told(rt: &impl Print, name: &[u8], tally: Tally) -> io::Result<Tally> {
     rt.write_all(name)?;
-    println!(rt; ": {texts} texts, {wrong} differ")?;
-    Ok(Tally {
-        texts: sum(all.texts, texts),
-        wrong: sum(all.wrong, wrong),
-    })
+    println!(rt; ": {tally}")?;
+    Ok(tally)
 }
 
 // ---- the cases that are read
 
-// A case between two lines of a kind.
-fn case(t: Tally, file: &[u8], kind: usize, from: usize, to: usize) -> Tally
-    requires fact_1 { kind ≤ length file.now }
-    requires fact_2 { from ≤ length file.now }
-    requires fact_3 { to ≤ length file.now }
-{
+// Whether a case gives something else than expected: its lines, behind those that every text of its kind begins with.
+fn case_differs(kind: &[u8], case: &[u8]) -> Result<bool, fmt::Error> {
     let mut text = [0u8; 4096];
     let mut sheet = [0u8; 4096];
     let mut words = [0u8; 4096];
-    let top = cases::push_lines(file, kind, to, b'*', b"\n", &mut text, 0);
-    let lines = cases::push_lines(file, from, to, b'>', b"\n", &mut text, top);
-    let size = cases::push_lines(file, from, to, b'|', b"", &mut text, lines);
-    let end = cases::push_lines(file, from, to, b'<', b"\n", &mut sheet, 0);
-    let said = cases::push_lines(file, from, to, b'!', b"\n", &mut words, 0);
-    tried(t, &text[..size], &sheet[..end], &words[..said])
+    let mut text = Page::new(&mut text);
+    let mut sheet = Page::new(&mut sheet);
+    let mut words = Page::new(&mut words);
+    cases::put_marked(&mut text, kind, b'*', b"\n")?;
+    cases::put_marked(&mut text, case, b'>', b"\n")?;
+    cases::put_marked(&mut text, case, b'|', b"")?;
+    cases::put_marked(&mut sheet, case, b'<', b"\n")?;
+    cases::put_marked(&mut words, case, b'!', b"\n")?;
+    Ok(gives_otherwise(text.bytes(), sheet.bytes(), words.bytes()))
 }
 
-// The cases of a kind, whose lines are those between two.
-fn cases_of(file: &[u8], kind: usize, to: usize) -> Tally
-    requires fact_1 { kind ≤ length file.now }
-    requires fact_2 { to ≤ length file.now }
-{
-    let mut t = none();
-    let mut from = kind;
-    let mut end = cases::find(file, kind, b'.');
-    while end < to {
-        t = case(t, file, kind, from, end);
-        from = end;
-        end = cases::find(file, cases::next_line(file, end), b'.');
+// The cases of a kind. One that has no room differs.
+fn cases_of(kind: &[u8]) -> Tally {
+    let mut tally = Tally::default();
+    let mut rest = kind;
+    while let Some((case, end)) = cases::split_before(rest, b'.') {
+        tally.count(case_differs(kind, case).unwrap_or(true));
+        rest = end;
     }
-    t
+    tally
 }
 
-// A kind: its name, and its cases.
-fn kind(rt: &impl Print, all: Tally, file: &[u8], from: usize, to: usize) -> io::Result<Tally>
-    requires fact_1 { from < length file.now }
-    requires fact_2 { to ≤ length file.now }
-{
-    let mut name = [0u8; 128];
-    let size = cases::push_line(file, from, b"", &mut name, 0);
-    let t = cases_of(file, from, to);
-    told(rt, all, &name[..size], t)
-}
-
-// Every kind of the file.
+// Every kind of the file: its name, and its cases.
 fn kinds(rt: &impl Print, file: &[u8]) -> io::Result<Tally> {
-    let mut all = none();
-    let mut from = cases::find(file, 0, b'=');
-    while from < file.len() {
-        let to = cases::find(file, cases::next_line(file, from), b'=');
-        all = kind(rt, all, file, from, to)?;
-        from = to;
+    let mut all = Tally::default();
+    let mut rest = file;
+    while let Some((_, kinds)) = cases::split_before(rest, b'=') {
+        let (kind, _) = cases::split_before(kinds, b'=').unwrap_or((kinds, &[]));
+        let title = kind.split(|b| *b == b'\n').next().unwrap_or(&[]);
+        all.add(told(rt, cases::behind_mark(title), cases_of(kind))?);
+        rest = kinds;
     }
     Ok(all)
 }
 
 // ---- the cases that are made
 
-// Files that were saved by other habits: their bytes could not stand in a file of cases. A carriage return is a byte like any other.
-fn saved_otherwise() -> Tally {
-    let a = tried(
-        none(),
-        b"FXDAY\r\n",
-        b"BAD 1\n",
-        b"line 1: a carriage return ends the line: save the file with Unix line ends, a line feed alone\n",
-    );
-    let b = tried(
-        a,
-        b"FXDAY\nPRODUCTS 1\r\n",
-        b"BAD 2\n",
-        b"line 2: a carriage return ends the line: save the file with Unix line ends, a line feed alone\n",
-    );
-    let c = tried(
-        b,
-        b"FXDAY\rPRODUCTS 1\r",
-        b"BAD 1\n",
-        b"line 1: a carriage return ends the line: save the file with Unix line ends, a line feed alone\n",
-    );
-    let d = tried(
-        c,
-        b"\xEF\xBB\xBFFXDAY\n",
-        b"BAD 1\n",
-        b"line 1: a byte order mark stands before FXDAY: save the file as UTF-8 without a byte order mark\n",
-    );
-    saved_wide(d)
+// A carriage return is a byte like any other.
+const RETURN: &str =
+    ": a carriage return ends the line: save the file with Unix line ends, a line feed alone";
+
+const UTF16: &str =
+    ": the file is saved as UTF-16: save it as plain text, ASCII or UTF-8 without a byte order mark";
+
+const MARK: &str =
+    ": a byte order mark stands before FXDAY: save the file as UTF-8 without a byte order mark";
+
+const CONTROL: &str =
+    ", column 6: a control character: take it away, or save the file as plain text";
+
+// Whether a text whose bad line has a number gives something else than that, or is told otherwise.
+fn bad_differs(text: &[u8], line: usize, why: &str) -> Result<bool, fmt::Error> {
+    let mut sheet = [0u8; 16];
+    let mut words = [0u8; 512];
+    let mut sheet = Page::new(&mut sheet);
+    let mut words = Page::new(&mut words);
+    writeln!(sheet, "BAD {line}")?;
+    writeln!(words, "line {line}{why}")?;
+    Ok(gives_otherwise(text, sheet.bytes(), words.bytes()))
 }
 
-// UTF-16, with its mark in either order of bytes, and without; and a byte that no text has.
-fn saved_wide(t: Tally) -> Tally {
-    let a = tried(
-        t,
-        b"\xFF\xFEF\x00X\x00",
-        b"BAD 1\n",
-        b"line 1: the file is saved as UTF-16: save it as plain text, ASCII or UTF-8 without a byte order mark\n",
-    );
-    let b = tried(
-        a,
-        b"\xFE\xFF\x00F\x00X",
-        b"BAD 1\n",
-        b"line 1: the file is saved as UTF-16: save it as plain text, ASCII or UTF-8 without a byte order mark\n",
-    );
-    let c = tried(
-        b,
-        b"F\x00X\x00D\x00",
-        b"BAD 1\n",
-        b"line 1: the file is saved as UTF-16: save it as plain text, ASCII or UTF-8 without a byte order mark\n",
-    );
-    tried(
-        c,
-        b"FXDAY\x07\n",
-        b"BAD 1\n",
-        b"line 1, column 6: a control character: take it away, or save the file as plain text\n",
-    )
+// Files that were saved by other habits: their bytes could not stand in a file of cases. UTF-16 has its mark in either order of bytes, or none.
+fn saved_otherwise() -> Tally {
+    let mut tally = Tally::default();
+    let texts: [(&[u8], usize, &str); 8] = [
+        (b"FXDAY\r\n", 1, RETURN),
+        (b"FXDAY\nPRODUCTS 1\r\n", 2, RETURN),
+        (b"FXDAY\rPRODUCTS 1\r", 1, RETURN),
+        (b"\xEF\xBB\xBFFXDAY\n", 1, MARK),
+        (b"\xFF\xFEF\x00X\x00", 1, UTF16),
+        (b"\xFE\xFF\x00F\x00X", 1, UTF16),
+        (b"F\x00X\x00D\x00", 1, UTF16),
+        (b"FXDAY\x07\n", 1, CONTROL),
+    ];
+    for (text, line, why) in texts {
+        tally.count(bad_differs(text, line, why).unwrap_or(true));
+    }
+    tally
 }
 
 // Whether the sheet of a text is another, or something has no room in what is told beside it: of the largest day every call is refused.
@@ -211,34 +162,31 @@ fn differs_or_cut(text: &[u8], expected: &[u8]) -> bool {
     plain::tell(text, expected, &mut words) == words.len()
 }
 
-// One text more: the first bytes of a list, and of a sheet.
-fn first_bytes(t: Tally, text: &[u8], size: usize, expected: &[u8], end: usize) -> Tally {
-    if size > text.len() {
-        return t;
-    }
-    if end > expected.len() {
-        return t;
-    }
-    counted(t, differs_or_cut(&text[..size], &expected[..end]))
+// The largest day's text, of `extra` bytes more; how long it is.
+fn day_into(text: &mut [u8], extra: usize) -> Option<usize> {
+    let mut page = Page::new(text);
+    full::put_day(&mut page, extra).ok()?;
+    Some(page.bytes().len())
 }
 
 // Texts of 65,536 bytes and of one more: of the largest day, and of one letter.
-fn longest() -> Tally {
-    let mut text = [0u8; 65600];
+fn longest() -> Option<Tally> {
+    let mut tally = Tally::default();
     let mut sheet = [0u8; 65536];
-    let end = full::push_sheet(&mut sheet);
-    let size = full::push_day(&mut text, 0);
-    if size > 65536 {
-        return none();
-    }
-    let a = first_bytes(none(), &text, size, &sheet, end);
-    full::push_day(&mut text, 65536 - size);
-    let b = first_bytes(a, &text, 65536, &sheet, end);
-    let c = first_bytes(b, &text, 65537, b"BAD 0\n", 6);
-    let d = first_bytes(c, &text, 65535, b"BAD 2110\n", 9);
-    full::push_many(&mut text, 0, b"x", 65537);
-    let e = first_bytes(d, &text, 65536, b"BAD 1\n", 6);
-    first_bytes(e, &text, 65537, b"BAD 0\n", 6)
+    let mut page = Page::new(&mut sheet);
+    full::put_sheet(&mut page).ok()?;
+    let sheet = page.bytes();
+    let mut text = [0u8; 65600];
+    let size = day_into(&mut text, 0)?;
+    tally.count(differs_or_cut(text.get(..size)?, sheet));
+    day_into(&mut text, 65536usize.checked_sub(size)?)?;
+    tally.count(differs_or_cut(text.get(..65536)?, sheet));
+    tally.count(differs_or_cut(text.get(..65537)?, b"BAD 0\n"));
+    tally.count(differs_or_cut(text.get(..65535)?, b"BAD 2110\n"));
+    let text = [b'x'; 65537];
+    tally.count(differs_or_cut(text.get(..65536)?, b"BAD 1\n"));
+    tally.count(differs_or_cut(&text, b"BAD 0\n"));
+    Some(tally)
 }
 
 // Reads until the input ends or `file` is full; how many bytes came.
@@ -259,9 +207,9 @@ fn read_file(source: &mut impl Read, file: &mut [u8]) -> io::Result<usize>
 fn main(rt: HostRuntime) -> io::Result<()> {
     let mut file = [0u8; 65536];
     let size = read_file(&mut rt.stdin(), &mut file)?;
-    let a = kinds(&rt, &file[..size])?;
-    let b = told(&rt, a, b"files saved otherwise", saved_otherwise())?;
-    let c = told(&rt, b, b"longest texts", longest())?;
-    told(&rt, none(), b"in all", c)?;
+    let mut all = kinds(&rt, &file[..size])?;
+    all.add(told(&rt, b"files saved otherwise", saved_otherwise())?);
+    all.add(told(&rt, b"longest texts", longest().unwrap_or_default())?);
+    told(&rt, b"in all", all)?;
     Ok(())
 }
