@@ -5,7 +5,7 @@ ghost use Rattle.std.specs.Prelude.{◌<◌, ◌≤◌, length};
 use super::marks::Wrong;
 
 // Where the field that a place stands in starts.
-pub fn field_start(line: &[u8], at: usize) -> usize
+pub(super) fn field_start(line: &[u8], at: usize) -> usize
     requires { at < length line.now }
     ensures { result ≤ at }
 {
@@ -51,7 +51,7 @@ fn names_account(line: &[u8], start: usize) -> bool {
 }
 
 // A comma: what to write, where that is clear.
-pub fn comma(line: &[u8], at: usize) -> Wrong<'_>
+pub(super) fn comma(line: &[u8], at: usize) -> Wrong<'_>
     requires { at < length line.now }
 {
     let start = field_start(line, at);
@@ -66,7 +66,7 @@ pub fn comma(line: &[u8], at: usize) -> Wrong<'_>
 }
 
 // A point.
-pub fn point(line: &[u8], at: usize) -> Wrong<'static>
+pub(super) fn point(line: &[u8], at: usize) -> Wrong<'static>
     requires { at < length line.now }
 {
     if line[field_start(line, at)].is_ascii_uppercase() {

@@ -1,4 +1,8 @@
 // Numbers, and how many of them a line has (01: "no plus sign, no leading zeros, no -0").
+ghost use Rattle.std.specs.Prelude.{◌≡◌, ◌≢◌, Some};
+ghost use Rattle.faults.specs.Figures.{fields};
+ghost use Rattle.faults.specs.declared.figures.Fault.TheVariants as Fault;
+
 use lines::{LOST, Numeral};
 use std::fmt;
 
@@ -61,8 +65,10 @@ fn why(figure: &[u8]) -> &'static str {
 // ---- all of them
 
 // How many fields stand in a line.
-pub fn fields(line: &[u8]) -> usize {
-    line.split(|b| *b == b' ').count()
+pub fn fields(line: &[u8]) -> usize
+    ensures { result ≡ fields line.now }
+{
+    line.iter().filter(|b| **b == b' ').count() + 1
 }
 
 // The first figure that can not be read, of those that stand up to the line's end.
@@ -83,7 +89,9 @@ fn unread(figures: &[u8], must: usize) -> Option<Fault> {
 
 // What is the matter with `must` figures up to the line's end: how many there are, before what each of them is, since a number that is parted by a
 // space is two.
-pub fn first_fault(figures: &[u8], must: usize) -> Option<Fault> {
+pub fn first_fault(figures: &[u8], must: usize) -> Option<Fault>
+    ensures { fields figures.now ≢ must → result ≡ Some (Fault.Count (fields figures.now) must) }
+{
     let has = fields(figures);
     if has != must {
         return Some(Fault::Count { has, must });

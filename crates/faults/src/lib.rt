@@ -3,7 +3,7 @@
 // line first, on a page (`page`). Proved safe and to end; what is said is tried by the program `texts`.
 #![tactic(auto)]
 
-pub mod commas;
+mod commas;
 pub mod figures;
 pub mod marks;
 pub mod page;

@@ -1,6 +1,7 @@
 // Bytes that no line of a day file has: whatever else is wrong with the line, they have to go. A file that was typed or saved by other habits
 // has them: Windows line ends, tabs, commas in numbers, a space too many.
 ghost use Rattle.std.specs.Prelude.{◌<◌, length, IfSome};
+ghost use Rattle.faults.specs.Marks.{IsWithin};
 
 use super::commas;
 use std::fmt;
@@ -168,7 +169,9 @@ fn wrong_at(line: &[u8], at: usize) -> Wrong<'_>
 }
 
 // What is wrong with the bytes of a line, its line feed left out.
-pub fn first_fault(line: &[u8]) -> Option<Fault<'_>> {
+pub fn first_fault(line: &[u8]) -> Option<Fault<'_>>
+    ensures { IfSome result (IsWithin line.now) }
+{
     if is_blank(line) {
         return Some(Fault::Line("a blank line: take it away"));
     }

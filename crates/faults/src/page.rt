@@ -1,6 +1,6 @@
 // A page of bytes that are lent: what is said stands on it from its start on, one piece behind another. What has no room is cut, so that nobody has to
 // ask for any.
-ghost use Rattle.std.specs.Prelude.{◌≤◌, length};
+ghost use Rattle.std.specs.Prelude.{◌≡◌, ◌↔◌, [], ◌+◌, ◌≤◌, length, IsOk};
 
 use std::fmt;
 
@@ -12,17 +12,29 @@ pub struct Page<'a> {
 }
 
 impl<'a> Page<'a> {
-    pub fn new(out: &'a mut [u8]) -> Page<'a> {
+    ghost use Rattle.faults.specs.Page.{written, room, Appends};
+
+    // An empty one.
+    pub fn new(out: &'a mut [u8]) -> Page<'a>
+        ensures empty { written result ≡ [] }
+        ensures whole { room result ≡ length out.old }
+    {
         Page { out, size: 0 }
     }
 
     // What is written.
-    pub fn bytes(&self) -> &[u8] {
+    pub fn bytes(&self) -> &[u8]
+        ensures { result.now ≡ written self.now }
+    {
         &self.out[..self.size]
     }
 
     // Bytes as they are; an error where not all of them have room.
-    pub fn put(&mut self, bytes: &[u8]) -> fmt::Result {
+    pub fn put(&mut self, bytes: &[u8]) -> fmt::Result
+        ensures ok { IsOk result → Appends self.old bytes.now self.new }
+        ensures fits { IsOk result ↔ (length (written self.old) + length bytes.now ≤ room self.old) }
+        ensures room { room self.new ≡ room self.old }
+    {
         let kept = bytes.len().min(self.out.len() - self.size);
         let end = self.size + kept;
         self.out[self.size..end].copy_from_slice(&bytes[..kept]);
@@ -35,7 +47,13 @@ impl<'a> Page<'a> {
 }
 
 impl fmt::Write for Page<'_> {
-    fn write_str(&mut self, words: &str) -> fmt::Result {
+    ghost use Rattle.faults.specs.Page.{Appends};
+
+    ghost write_str_gives = { Appends };
+
+    fn write_str(&mut self, words: &str) -> fmt::Result
+        ensures { IsOk result → Appends self.old words.now self.new }
+    {
         self.put(words.as_bytes())
     }
 }
