@@ -1,6 +1,6 @@
 // Numbers, and how many of them a line has (01: "no plus sign, no leading zeros, no -0").
 ghost use Rattle.std.specs.Prelude.{◌≡◌, ◌≢◌, Some};
-ghost use Rattle.faults.specs.Figures.{fields};
+ghost use Rattle.faults.specs.Fields.{fields};
 ghost use Rattle.faults.specs.declared.figures.Fault.TheVariants as Fault;
 
 use lines::{LOST, Numeral};

@@ -8,6 +8,7 @@ ghost use Rattle.std.specs.Prelude.{◌≤◌, length, IfOk};
 use faults::page::Page;
 use std::fmt::Write;
 use std::io::Read;
+use std::ops::AddAssign;
 use std::{fmt, io};
 
 mod cases;
@@ -26,8 +27,10 @@ impl Tally {
         self.texts = self.texts.saturating_add(1);
         self.wrong = self.wrong.saturating_add(u64::from(differs));
     }
+}
 
-    fn add(&mut self, other: Tally) {
+impl AddAssign for Tally {
+    fn add_assign(&mut self, other: Tally) {
         self.texts = self.texts.saturating_add(other.texts);
         self.wrong = self.wrong.saturating_add(other.wrong);
     }
@@ -102,7 +105,7 @@ fn kinds(rt: &impl Print, file: &[u8]) -> io::Result<Tally> {
     while let Some((_, kinds)) = cases::split_before(rest, b'=') {
         let (kind, _) = cases::split_before(kinds, b'=').unwrap_or((kinds, &[]));
         let title = kind.split(|b| *b == b'\n').next().unwrap_or(&[]);
-        all.add(told(rt, cases::behind_mark(title), cases_of(kind))?);
+        all += told(rt, cases::behind_mark(title), cases_of(kind))?;
         rest = kinds;
     }
     Ok(all)
@@ -208,8 +211,8 @@ fn main(rt: HostRuntime) -> io::Result<()> {
     let mut file = [0u8; 65536];
     let size = read_file(&mut rt.stdin(), &mut file)?;
     let mut all = kinds(&rt, &file[..size])?;
-    all.add(told(&rt, b"files saved otherwise", saved_otherwise())?);
-    all.add(told(&rt, b"longest texts", longest().unwrap_or_default())?);
+    all += told(&rt, b"files saved otherwise", saved_otherwise())?;
+    all += told(&rt, b"longest texts", longest().unwrap_or_default())?;
     told(&rt, b"in all", all)?;
     Ok(())
 }
