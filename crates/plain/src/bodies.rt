@@ -41,11 +41,8 @@ fn say_account(page: &mut Page, line: &[u8], number: usize) -> fmt::Result {
 }
 
 // A call: its letter, then its figures. A letter that has none stands alone.
-fn say_call(page: &mut Page, line: &[u8], number: usize, p: usize) -> fmt::Result {
-    if p > places::MOST_PRODUCTS {
-        return Ok(());
-    }
-    let must = dayfile::figures_of(p, lines::byte_at(line, 0));
+fn say_call(page: &mut Page, day: Day, line: &[u8], number: usize) -> fmt::Result {
+    let must = dayfile::figures_of(day.contents.products, lines::byte_at(line, 0));
     if must > dayfile::MOST_FIGURES {
         return write!(
             page,
@@ -135,7 +132,7 @@ fn say_of(page: &mut Page, day: Day, section: Section, line: &[u8], number: usiz
         Section::Products => say_product(page, line, number),
         Section::Accounts => say_account(page, line, number),
         Section::Positions => say_holding(page, day, line, number),
-        Section::Calls => say_call(page, line, number, day.contents.products),
+        Section::Calls => say_call(page, day, line, number),
     }
 }
 

@@ -4,6 +4,7 @@
 #![tactic(auto)]
 
 ghost use Rattle.std.specs.Prelude.{◌≤◌, length};
+ghost use Rattle.places.specs.Act.{most_products};
 
 use dayfile::Contents;
 use faults::marks;
@@ -19,14 +20,20 @@ mod sections;
 mod start;
 mod table;
 
-// A text, and what its table of contents says.
+// A text, and what its table of contents says: no more products than a ledger has.
 #[derive(Clone, Copy)]
 struct Day<'a> {
     text: &'a [u8],
     contents: Contents,
+    ghost few: { contents.products ≤ most_products },
 }
 
 impl<'a> Day<'a> {
+    fn new(text: &'a [u8]) -> Day<'a> {
+        let contents = dayfile::read_contents(text);
+        Day { text, contents }
+    }
+
     // A line by its number, the first being 1, with the line feed that ends it; nothing, where the text has no such line.
     fn line(self, number: usize) -> Option<&'a [u8]> {
         self.text
@@ -90,25 +97,17 @@ fn say(page: &mut Page, text: &[u8], sheet: &[u8]) -> fmt::Result {
         if text.len() > LONGEST {
             return page.write_str("the text is longer than 65536 bytes\n");
         }
-        let contents = dayfile::read_contents(text);
         let number = lines::field_at(bad, 0, b'\n').value.unsigned_abs() as usize;
-        say_bad(page, Day { text, contents }, number)?;
+        say_bad(page, Day::new(text), number)?;
         return page.write_str("\n");
     }
     match sheet.strip_prefix(b"FXSHEET\n") {
-        Some(replies) => refusals::say(
-            page,
-            Day {
-                text,
-                contents: dayfile::read_contents(text),
-            },
-            replies,
-        ),
+        Some(replies) => refusals::say(page, Day::new(text), replies),
         None => Ok(()),
     }
 }
 
-// What is to be told of a text, by its sheet, at the start of `out`; and its length, 0 where there is nothing to tell. What has no room is left out:
+// What is to be told of a text, by its sheet, at the start of `out`; and its length, 0 where there is nothing to tell. What has no room is cut:
 // 512 bytes hold what is wrong with a bad text, and 262,144 every refused call of any.
 pub fn tell(text: &[u8], sheet: &[u8], out: &mut [u8]) -> usize
     ensures { result ≤ length out.new }

@@ -122,12 +122,8 @@ fn say_close(page: &mut Page, day: Day, figures: &[i64]) -> fmt::Result {
 
 // The first figure of a trade or of a close that is out of its range, in the order of its line.
 pub fn say_first(page: &mut Page, day: Day, call: &[u8]) -> fmt::Result {
-    let p = day.contents.products;
-    if p > places::MOST_PRODUCTS {
-        return Ok(());
-    }
     let mut figures = [0i64; dayfile::MOST_FIGURES];
-    dayfile::call_line(call, p, 0, &mut figures);
+    dayfile::call_line(call, day.contents.products, 0, &mut figures);
     if call.starts_with(b"T") {
         return say_trade(page, day, &figures);
     }
