@@ -8,7 +8,7 @@ ghost use Rattle.dayfile.specs.Table.{ledger_shape};
 use super::ranges::Ranged;
 use super::sections::Section;
 use super::{Day, bodies, ranges};
-use clauses::{Failing, numbers};
+use clauses::{Clause, Failing};
 use dayfile::Contents;
 use faults::page::Page;
 use places::Shape;
@@ -16,8 +16,8 @@ use rules::sizes;
 use std::fmt;
 use std::fmt::Write;
 
-// The clause, by way of words that are all 0.
-fn failing_in(text: &[u8], c: Contents, words: &mut [i64]) -> Failing
+// What fails first, by way of words that are all 0.
+fn failing_in(text: &[u8], c: Contents, words: &mut [i64]) -> Option<Failing>
     requires { (Modest c) × (words.old ≡ replicate (words_of (ledger_shape c)) (pos 0)) }
 {
     dayfile::bodies_into(text, c, words);
@@ -25,7 +25,7 @@ fn failing_in(text: &[u8], c: Contents, words: &mut [i64]) -> Failing
 }
 
 // The same, by way of words for the largest ledger.
-fn failing_by(text: &[u8], words: &mut [i64]) -> Failing
+fn failing_by(text: &[u8], words: &mut [i64]) -> Option<Failing>
     requires { words.old ≡ replicate most_words (pos 0) }
 {
     let c = dayfile::read_contents(text);
@@ -49,7 +49,7 @@ fn say_product(page: &mut Page, day: Day, failing: Failing) -> fmt::Result {
     let number = Section::Products.line_number(day.contents, failing.product);
     let figure = failing.figure;
     match failing.clause {
-        numbers::MARK => {
+        Clause::Mark => {
             let mark = Ranged {
                 name: "the floor mark",
                 figure,
@@ -58,7 +58,7 @@ fn say_product(page: &mut Page, day: Day, failing: Failing) -> fmt::Result {
             };
             say_ranged(page, number, 1, mark)
         }
-        numbers::PRICE => {
+        Clause::Price => {
             let kind = ranges::kind_of(day, failing.product);
             say_ranged(page, number, 2, ranges::price(kind, figure))
         }
@@ -91,7 +91,7 @@ fn say_account(page: &mut Page, day: Day, failing: Failing) -> fmt::Result {
     let number = Section::Accounts.line_number(day.contents, failing.account);
     let figure = failing.figure;
     match failing.clause {
-        numbers::GUARANTEE => {
+        Clause::Guarantee => {
             let guarantee = Ranged {
                 name: "the guarantee",
                 figure,
@@ -100,7 +100,7 @@ fn say_account(page: &mut Page, day: Day, failing: Failing) -> fmt::Result {
             };
             say_guarantee(page, day, number, 2, guarantee)
         }
-        numbers::CAP => {
+        Clause::Cap => {
             let cap = Ranged {
                 name: "the cap",
                 figure,
@@ -109,7 +109,7 @@ fn say_account(page: &mut Page, day: Day, failing: Failing) -> fmt::Result {
             };
             say_guarantee(page, day, number, 3, cap)
         }
-        numbers::MARGIN => {
+        Clause::Margin => {
             let margin = Ranged {
                 name: "the initial margin",
                 figure,
@@ -132,7 +132,7 @@ fn say_position(page: &mut Page, day: Day, failing: Failing) -> fmt::Result {
         return Ok(());
     };
     let figure = failing.figure;
-    if failing.clause == numbers::LOTS {
+    if failing.clause == Clause::Lots {
         let lots = Ranged {
             name: "the number of lots",
             figure,
@@ -155,14 +155,16 @@ fn say_position(page: &mut Page, day: Day, failing: Failing) -> fmt::Result {
 // what no day file states.
 pub fn say(page: &mut Page, day: Day) -> fmt::Result {
     let mut words = [0i64; places::MOST_WORDS];
-    let failing = failing_by(day.text, &mut words);
+    let Some(failing) = failing_by(day.text, &mut words) else {
+        return page.write_str("the ledger that the text states is not sound");
+    };
     match failing.clause {
-        numbers::MARK | numbers::PRICE | numbers::PAIR => say_product(page, day, failing),
-        numbers::GUARANTEE | numbers::CAP | numbers::MARGIN | numbers::GROSS => say_account(
+        Clause::Mark | Clause::Price | Clause::Pair => say_product(page, day, failing),
+        Clause::Guarantee | Clause::Cap | Clause::Margin | Clause::Gross => say_account(
             page, day, failing,
         ),
-        numbers::LOTS | numbers::BOOK => say_position(page, day, failing),
-        numbers::BALANCE => {
+        Clause::Lots | Clause::Book => say_position(page, day, failing),
+        Clause::Balance => {
             let product = failing.product;
             let sum = failing.figure;
             write!(
