@@ -2,8 +2,7 @@
 use mathlib.Core.Path.{◌≡◌, refl, sym, ◌∙◌, ap}
 use mathlib.Core.List.{List, []}
 use Prim.Native.Nat.{ℕ, zero, suc, ◌+◌, ◌-◌, ◌≤◌, ◌<◌}
-use native.Mathlib.Numerals.{add-one}
-use native.Mathlib.Nat.{not-suc-le-zero}
+use native.Mathlib.Nat.{add-zero, not-suc-le-zero}
 use native.Mathlib.Omega.{arith}
 use lib.IntN.{ℤ}
 use lib.ListN.{length, set, length-set}
@@ -16,26 +15,46 @@ unfolding figures_at
 figures_step text at zero h = absurd (not-suc-le-zero h)
 figures_step text at (suc k) h = let e : suc k - 1 ≡ k = omega arith in rw e
 
--- what a loop over the fields keeps: what is left of the line, written from here on, is the whole of it, written from the start
-pub record Filled (text : List ℕ) (from count : ℕ) (out₀ : List ℤ) (base : ℕ) (out : List ℤ) (at i left : ℕ) : Type 0 where
-  pub room : i + left ≤ length out
-  pub same : length out ≡ length out₀
-  pub ends : (figures_at text from count).next ≡ (figures_at text at left).next
-  pub held : sets out₀ base (figures_at text from count).values ≡ sets out i (figures_at text at left).values
-
-pub filled_more : {text : List ℕ} {from count : ℕ} {out₀ : List ℤ} {base : ℕ} {out : List ℤ} {at i left : ℕ} (f : Field) (v : ℤ) → Filled text from count out₀ base out at i left → 0 < left → f ≡ field_at text at (close_of (left - 1)) → v ≡ f.value → Filled text from count out₀ base (set out i v) f.next (i + 1) (left - 1)
-filled_more {text} {from} {count} {out₀} {base} {out} {at} {i} {left} f v s h e d =
-    record {
-      room = omega (arith, s.room, length-set out i v);
-      same = length-set out i v ∙ s.same;
-      ends = s.ends ∙ ap (λ (x : FiguresRead). x.next) (figures_step text at left h) ∙ ap (λ (x : Field). (figures_at text x.next (left - 1)).next) (sym e);
-      held =
-          s.held ∙ ap (λ (x : FiguresRead). sets out i x.values) (figures_step text at left h)
-          ∙ ap (λ (x : Field). sets (set out i x.value) (suc i) (figures_at text x.next (left - 1)).values) (sym e)
-          ∙ rw (add-one i) (ap (λ (x : ℤ). sets (set out i x) (suc i) (figures_at text f.next (left - 1)).values) (sym d));
-    }
-
-pub filled-end : (text : List ℕ) (at left : ℕ) → left ≤ 0 → figures_at text at left ≡ record { values = []; next = at }
+filled-end : (text : List ℕ) (at left : ℕ) → left ≤ 0 → figures_at text at left ≡ record { values = []; next = at }
 unfolding figures_at
 filled-end text at zero h = refl
 filled-end text at (suc k) h = absurd (not-suc-le-zero h)
+
+-- what a loop over the fields keeps: what is left of the line, written from here on, is the whole of it, written from the start
+pub record Filled (text : List ℕ) (from count : ℕ) (out₀ : List ℤ) (base : ℕ) (out : List ℤ) (at i : ℕ) : Type 0 where
+  pub within : i ≤ count
+  pub room : base + count ≤ length out
+  pub same : length out ≡ length out₀
+  pub ends : (figures_at text from count).next ≡ (figures_at text at (count - i)).next
+  pub held : sets out₀ base (figures_at text from count).values ≡ sets out (base + i) (figures_at text at (count - i)).values
+
+pub filled_none : (text : List ℕ) (from count : ℕ) (out : List ℤ) (base : ℕ) → base + count ≤ length out → Filled text from count out base out from 0
+filled_none text from count out base h =
+    let e : count - 0 ≡ count = omega arith in
+    record { within = omega arith; room = h; same = refl; ends = rw e; held = rw (e, add-zero base) }
+
+pub filled_more : {text : List ℕ} {from count : ℕ} {out₀ : List ℤ} {base : ℕ} {out : List ℤ} {at i : ℕ} (f : Field) (v : ℤ) → Filled text from count out₀ base out at i → i < count → f ≡ field_at text at (close_of (count - 1 - i)) → v ≡ f.value → Filled text from count out₀ base (set out (base + i) v) f.next (i + 1)
+filled_more {text} {from} {count} {out₀} {base} {out} {at} {i} f v s h e d =
+    let less : count - i - 1 ≡ count - (i + 1) = omega arith in
+    let left : count - 1 - i ≡ count - i - 1 = omega arith in
+    let on : suc (base + i) ≡ base + (i + 1) = omega arith in
+    let this : f ≡ field_at text at (close_of (count - i - 1)) = e ∙ ap (λ (k : ℕ). field_at text at (close_of k)) left in
+    let step = figures_step text at (count - i) (omega arith) in
+    record {
+      within = omega arith;
+      room = omega (arith, s.room, length-set out (base + i) v);
+      same = length-set out (base + i) v ∙ s.same;
+      ends =
+          s.ends ∙ ap (λ (x : FiguresRead). x.next) step ∙ ap (λ (x : Field). (figures_at text x.next (count - i - 1)).next) (sym this)
+          ∙ ap (λ (k : ℕ). (figures_at text f.next k).next) less;
+      held =
+          s.held ∙ ap (λ (x : FiguresRead). sets out (base + i) x.values) step
+          ∙ ap (λ (x : Field). sets (set out (base + i) x.value) (suc (base + i)) (figures_at text x.next (count - i - 1)).values) (sym this)
+          ∙ ap (λ (x : ℤ). sets (set out (base + i) x) (suc (base + i)) (figures_at text f.next (count - i - 1)).values) (sym d)
+          ∙ (λ j. sets (set out (base + i) v) (on j) (figures_at text f.next (less j)).values);
+    }
+
+pub filled_done : {text : List ℕ} {from count : ℕ} {out₀ : List ℤ} {base : ℕ} {out : List ℤ} {at i : ℕ} → Filled text from count out₀ base out at i → count ≤ i → (at ≡ (figures_at text from count).next) × (out ≡ sets out₀ base (figures_at text from count).values)
+filled_done {text} {from} {count} {out₀} {base} {out} {at} {i} s h =
+    let e = filled-end text at (count - i) (omega arith) in
+    (sym (s.ends ∙ ap (λ (f : FiguresRead). f.next) e), sym (s.held ∙ ap (λ (f : FiguresRead). sets out (base + i) f.values) e))

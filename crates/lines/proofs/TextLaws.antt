@@ -1,8 +1,8 @@
 -- Laws of words and of runs of digits, at a position of a list. Assumes nothing.
 use mathlib.Core.Path.{◌≡◌, refl, sym, ◌∙◌, ap}
-use mathlib.Core.Bool.{Bool, true, false, true≢false, cond}
+use mathlib.Core.Bool.{Bool, true, false, true≢false, cond, ◌&&◌}
 use mathlib.Core.List.{List, [], ◌∷◌}
-use Prim.Native.Nat.{ℕ, zero, suc, ◌+◌, ◌*◌, ◌-◌, ◌≤◌, ◌<◌}
+use Prim.Native.Nat.{ℕ, zero, suc, ◌+◌, ◌*◌, ◌-◌, ◌≤◌, ◌<◌, min}
 use native.Mathlib.Numerals.{add-one}
 use native.Mathlib.Omega.{arith}
 use borrow.Author.Tests.{lt-ltb, le-ltb, eq-eqb, ne_eqb, eqb-true, ltb-true, ltb-false}
@@ -13,23 +13,38 @@ use lib.Seq.{drop-cons, take_all}
 use mir.Syntax.{w64}
 use mir.Val.{SFits}
 use native.Mathlib.Nat.{add-zero}
+use Rattle.std.proofs.Common.{◌⊎◌, inl, inr}
+use Rattle.std.specs.List.{starts_with as prefix}
 use Rattle.lines.specs.InsideLines.{capped, digits_at}
 use Rattle.lines.specs.Text.{starts_with, word_at, leading_digits, nat_from, minus_of, plain_of, number_at}
 use Rattle.lines.specs.declared.Numeral.TheVariants.{Bad, Value}
 use Rattle.lines.specs.declared.LeadingDigits.{LeadingDigits}
 
 -- ---- words
-pub starts_done : (w s : List ℕ) (i : ℕ) → length w ≤ i → starts_with (drop i w) (drop i s) ≡ true
-starts_done w s i h = rw (drop_of_length-le w h)
+-- the library's test of a prefix is that of the definition
+starts_one : (w b : ℕ) (x y : Bool) (t : Bool) → eqb w b ≡ t → x ≡ y → (t && x) ≡ cond (eqb b w) y false
+starts_one w b x y true e h = rw (eq-eqb b w (sym (eqb-true w b e))) h
+starts_one w b x y false e h = rw (ne_eqb b w (λ q. true≢false (sym (eq-eqb w b (sym q)) ∙ e))) refl
 
-pub starts_short : (w s : List ℕ) (i : ℕ) → i < length w → length s ≤ i → starts_with (drop i w) (drop i s) ≡ false
-starts_short w s i p h = rw (drop_of_length-le s h, drop-cons w i 0 p)
+starts_same : (w s : List ℕ) → prefix eqb s w ≡ starts_with w s
+starts_same [] s = refl
+starts_same (w ∷ ws) [] = refl
+starts_same (w ∷ ws) (b ∷ bs) = starts_one w b _ (starts_with ws bs) (eqb w b) refl (starts_same ws bs)
 
-pub starts_differs : (w s : List ℕ) (i : ℕ) → i < length w → i < length s → (get_or s i 0 ≡ get_or w i 0 → ⊥) → starts_with (drop i w) (drop i s) ≡ false
-starts_differs w s i p q n = rw (drop-cons w i 0 p, drop-cons s i 0 q, ne_eqb (get_or s i 0) (get_or w i 0) n)
+drop_least : (text : List ℕ) (at : ℕ) (t : Bool) → ltb (length text) at ≡ t → drop (min at (length text)) text ≡ drop at text
+drop_least text at true e =
+    let h = ltb-true (length text) at e in
+    rw (drop_of_length-le text {i = at} (omega arith), drop_of_length-le text {i = min at (length text)} (omega arith)) refl
+drop_least text at false e =
+    let h = ltb-false (length text) at e in
+    let m : min at (length text) ≡ at = omega arith in rw m refl
 
-pub starts_more : (w s : List ℕ) (i : ℕ) → i < length w → i < length s → get_or s i 0 ≡ get_or w i 0 → starts_with (drop i w) (drop i s) ≡ starts_with (drop (i + 1) w) (drop (i + 1) s)
-starts_more w s i p q e = rw (add-one i, drop-cons w i 0 p, drop-cons s i 0 q, eq-eqb (get_or s i 0) (get_or w i 0) e)
+part-all : (text : List ℕ) (at : ℕ) → take (length text - at) (drop at text) ≡ drop at text
+part-all text at = take_all (length text - at) (drop at text) (omega (arith, length-drop at text))
+
+pub word_there : (text : List ℕ) (at k : ℕ) (w : List ℕ) → k ≡ min at (length text) → prefix eqb (take (length text - k) (drop k text)) w ≡ word_at text at w
+word_there text at k w e =
+    ap (λ (s : List ℕ). prefix eqb s w) (part-all text k ∙ ap (λ (n : ℕ). drop n text) e ∙ drop_least text at (ltb (length text) at) refl) ∙ starts_same w (drop at text)
 
 -- the contract's Bool is exact: it is true where the bytes are the word, and only there
 starts_by : (w b : ℕ) (ws bs : List ℕ) (t : Bool) → eqb b w ≡ t → (starts_with ws bs ≡ true → take (length ws) bs ≡ ws) → cond t (starts_with ws bs) false ≡ true → b ∷ take (length ws) bs ≡ w ∷ ws
@@ -59,11 +74,9 @@ word_fits text at w e = omega (arith, simp (length-take, length-drop) at (ap len
 pub leading_end : (text : List ℕ) (i : ℕ) → length text ≤ i → leading_digits (drop i text) ≡ []
 leading_end text i h = rw (drop_of_length-le text h)
 
-pub leading_low : (text : List ℕ) (i : ℕ) → i < length text → get_or text i 0 < 48 → leading_digits (drop i text) ≡ []
-leading_low text i p h = rw (drop-cons text i 0 p, lt-ltb (get_or text i 0) 48 h)
-
-pub leading_high : (text : List ℕ) (i : ℕ) → i < length text → 48 ≤ get_or text i 0 → 57 < get_or text i 0 → leading_digits (drop i text) ≡ []
-leading_high text i p l h = rw (drop-cons text i 0 p, le-ltb (get_or text i 0) 48 l, lt-ltb 57 (get_or text i 0) h)
+pub leading_other : (text : List ℕ) (i : ℕ) → i < length text → (get_or text i 0 < 48) ⊎ (57 < get_or text i 0) → leading_digits (drop i text) ≡ []
+leading_other text i p (inl h) = rw (drop-cons text i 0 p, lt-ltb (get_or text i 0) 48 h)
+leading_other text i p (inr h) = rw (drop-cons text i 0 p, le-ltb (get_or text i 0) 48 (omega arith), lt-ltb 57 (get_or text i 0) h)
 
 pub leading_more : (text : List ℕ) (i : ℕ) → i < length text → 48 ≤ get_or text i 0 → get_or text i 0 ≤ 57 → leading_digits (drop i text) ≡ get_or text i 0 ∷ leading_digits (drop (i + 1) text)
 leading_more text i p l h = rw (add-one i, drop-cons text i 0 p, le-ltb (get_or text i 0) 48 l, le-ltb 57 (get_or text i 0) h)
@@ -139,9 +152,6 @@ module _ (text : List ℕ) (at i value : ℕ) (within : i < length text) (low : 
   }
 
 -- ---- numbers
-pub part-all : (text : List ℕ) (at : ℕ) → take (length text - at) (drop at text) ≡ drop at text
-part-all text at = take_all (length text - at) (drop at text) (omega (arith, length-drop at text))
-
 minus_cap : (lead from end v : ℕ) → Capped v → minus_of lead from end (capped v) ≡ minus_of lead from end v
 minus_cap lead from end v (under e l) = ap (minus_of lead from end) e
 minus_cap lead from end v (over e l) = ap (minus_of lead from end) e ∙ ap (λ (t : Bool). cond (eqb end from) Bad (cond (eqb lead 48) Bad (cond t Bad (Value (neg_ℤ (pos v)) end)))) (sym (lt-ltb 9223372036854775808 v (omega arith)))

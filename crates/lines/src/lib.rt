@@ -43,88 +43,54 @@ pub struct LeadingDigits {
     pub value: u64,
 }
 
-// Whether s begins with the word.
-fn starts_with(s: &[u8], word: &[u8]) -> bool
-    ensures { result ≡ starts_with word.now s.now }
-{
-    let mut i = 0;
-    while i < word.len() {
-        if s.len() <= i {
-            return false;
-        }
-        if s[i] != word[i] {
-            return false;
-        }
-        i += 1;
-    }
-    true
-}
-
 // Whether the bytes at a place are exactly the word.
 pub fn word_at(text: &[u8], at: usize, word: &[u8]) -> bool
     ensures { result ≡ word_at text.now at word.now }
 {
-    if text.len() < at {
-        return starts_with(&text[text.len()..], word);
-    }
-    starts_with(&text[at..], word)
-}
-
-fn wide(b: u8) -> u64
-    ensures { result ≡ b }
-{
-    b as u64
+    text[at.min(text.len())..].starts_with(word)
 }
 
 // The digits from a place: where they end, and their value; 2^63 + 1 for any that is larger, so that it is held by 64 bits.
 fn digits(text: &[u8], at: usize) -> LeadingDigits
+    requires { at ≤ length text.now }
     ensures { result ≡ digits_at text.now at }
 {
-    let mut i = at;
     let mut value: u64 = 0;
-    while i < text.len() {
+    for i in at..text.len() {
         let b = text[i];
-        if b < b'0' {
-            return LeadingDigits { end: i, value };
-        }
-        if b > b'9' {
+        if !b.is_ascii_digit() {
             return LeadingDigits { end: i, value };
         }
         if value > 922337203685477580 {
             value = 9223372036854775809;
         } else {
-            value = value * 10 + (wide(b) - 48);
+            value = value * 10 + u64::from(b - b'0');
         }
-        i += 1;
     }
-    LeadingDigits { end: i, value }
+    LeadingDigits {
+        end: text.len(),
+        value,
+    }
 }
 
 // The byte at a place, and 0 past the end.
 pub fn byte_at(text: &[u8], at: usize) -> u8
     ensures { result ≡ get_or text.now at 0 }
 {
-    if at < text.len() { text[at] } else { 0 }
+    text.get(at).copied().unwrap_or(0)
 }
 
 // The number of a run of digits after a minus.
 fn minus_of(lead: u8, from: usize, end: usize, value: u64) -> Numeral
     ensures { result ≡ minus_of lead from end value }
 {
-    if end == from {
-        return Numeral::Bad;
-    }
-    if lead == b'0' {
-        return Numeral::Bad;
-    }
-    if value > 9223372036854775808 {
+    if end == from || lead == b'0' || value > 9223372036854775808 {
         return Numeral::Bad;
     }
     if value == 9223372036854775808 {
-        return Numeral::Value(-9223372036854775808, end);
+        return Numeral::Value(i64::MIN, end);
     }
-    let n = value as i64;
-    Numeral::Value(0 - n, end)
+    Numeral::Value(-(value as i64), end)
 }
 
 // The number of a run of digits with no sign. A single digit, 0 too, is its own number. The run's length is asked before its leading digit: the
@@ -138,17 +104,12 @@ fn plain_of(lead: u8, from: usize, end: usize, value: u64) -> Numeral
         return Numeral::Bad;
     }
     if end == from + 1 {
-        let digit = value as i64;
-        return Numeral::Value(digit, end);
+        return Numeral::Value(value as i64, end);
     }
-    if lead == b'0' {
+    if lead == b'0' || value > 9223372036854775807 {
         return Numeral::Bad;
     }
-    if value > 9223372036854775807 {
-        return Numeral::Bad;
-    }
-    let n = value as i64;
-    Numeral::Value(n, end)
+    Numeral::Value(value as i64, end)
 }
 
 // A decimal number at a place: no plus, no leading zero, no -0, and it fits 64 bits.
@@ -163,14 +124,10 @@ pub fn number_at(text: &[u8], at: usize) -> Numeral
         let from = at + 1;
         let lead = byte_at(text, from);
         let d = digits(text, from);
-        let end = d.end;
-        let value = d.value;
-        return minus_of(lead, from, end, value);
+        return minus_of(lead, from, d.end, d.value);
     }
     let d = digits(text, at);
-    let end = d.end;
-    let value = d.value;
-    plain_of(first, at, end, value)
+    plain_of(first, at, d.end, d.value)
 }
 
 // The place behind a word, or LOST.
@@ -183,40 +140,27 @@ pub fn past_word(text: &[u8], at: usize, word: &[u8]) -> usize
     LOST
 }
 
-// A number that ends at e, and the byte that closes its field.
-fn closed_field(text: &[u8], close: u8, v: i64, e: usize) -> Field
-    ensures { result ≡ closed_field text.now close (Numeral.Value v e) }
-{
-    if e < text.len() {
-        if text[e] == close {
-            return Field {
-                value: v,
-                next: e + 1,
-            };
-        }
-        return Field {
-            value: 0,
-            next: LOST,
-        };
-    }
-    Field {
-        value: 0,
-        next: LOST,
-    }
-}
+// What a field holds that can not be read. It has a place too: `figures_at` writes its 0, and reads on at LOST, where a text of more than LONGEST bytes
+// has a byte.
+const NO_FIELD: Field = Field {
+    value: 0,
+    next: LOST,
+};
 
 // A number, and the byte that closes its field.
 pub fn field_at(text: &[u8], at: usize, close: u8) -> Field
     ensures { result ≡ field_at text.now at close }
 {
-    let n = number_at(text, at);
-    match n {
-        Numeral::Bad => Field {
-            value: 0,
-            next: LOST,
-        },
-        Numeral::Value(v, e) => closed_field(text, close, v, e),
+    let Numeral::Value(value, end) = number_at(text, at) else {
+        return NO_FIELD;
+    };
+    if end < text.len() && text[end] == close {
+        return Field {
+            value,
+            next: end + 1,
+        };
     }
+    NO_FIELD
 }
 
 // What closes a field after which `left` more come: a space, or a line feed.
@@ -232,15 +176,10 @@ pub fn figures_into(text: &[u8], from: usize, count: usize, out: &mut [i64], bas
     ensures { (result ≡ (figures_at text.now from count).next) × (out.new ≡ sets out.old base (figures_at text.now from count).values) }
 {
     let mut at = from;
-    let mut i = base;
-    let mut left = count;
-    while left > 0 {
-        left -= 1;
-        let f = field_at(text, at, close_of(left));
-        let v = f.value;
-        out[i] = v;
+    for i in 0..count {
+        let f = field_at(text, at, close_of(count - 1 - i));
+        out[base + i] = f.value;
         at = f.next;
-        i += 1;
     }
     at
 }
@@ -317,9 +256,9 @@ pub fn put_number(out: &mut [u8], at: usize, x: i64) -> usize
 {
     if x < 0 {
         out[at] = b'-';
-        return put_natural(out, at + 1, whole::nat_abs(x));
+        return put_natural(out, at + 1, x.unsigned_abs());
     }
-    put_natural(out, at, whole::nat_abs(x))
+    put_natural(out, at, x.unsigned_abs())
 }
 
 // The bytes of a word.
@@ -327,12 +266,9 @@ pub fn put_word(out: &mut [u8], at: usize, word: &[u8]) -> usize
     requires { at + length word.now ≤ length out.old }
     ensures { (result ≡ at + length word.now) × (out.new ≡ sets out.old at word.now) }
 {
-    let mut i = 0;
-    while i < word.len() {
-        out[at + i] = word[i];
-        i += 1;
-    }
-    at + i
+    let end = at + word.len();
+    out[at..end].copy_from_slice(word);
+    end
 }
 
 // A natural number, and what closes its field.
@@ -361,11 +297,8 @@ pub fn put_line(out: &mut [u8], from: usize, numbers: &[i64]) -> usize
     ensures { (result ≡ from + length (numbers_line numbers.now)) × (out.new ≡ sets out.old from (numbers_line numbers.now)) }
 {
     let mut at = from;
-    let mut i = 0;
-    while i < numbers.len() {
-        let x = numbers[i];
-        i += 1;
-        at = put_field(out, at, x, close_of(numbers.len() - i));
+    for (i, x) in numbers.iter().enumerate() {
+        at = put_field(out, at, *x, close_of(numbers.len() - 1 - i));
     }
     at
 }

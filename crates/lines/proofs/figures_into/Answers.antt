@@ -1,18 +1,20 @@
 -- What is left of the line, written from here, is the whole of it, written from the start.
+use mathlib.Core.Path.{◌∙◌, ap}
+use native.Mathlib.Omega.{arith}
+use borrow.Author.Rules.{rules}
 use mir.Syntax.{w64}
 use mir.Val.{SFits}
 use mir.Facts.{to_z-of_z}
-use lib.Seq.{sets}
-use Rattle.lines.specs.Lines.{field_at, FiguresRead}
-use Rattle.lines.proofs.FieldLaws.{filled_more, filled-end}
-use mathlib.Core.Path.{sym, ◌∙◌, ap}
-use native.Mathlib.Omega.{arith}
-use borrow.Author.Rules.{rules}
+use Rattle.lines.specs.Lines.{field_at}
+use Rattle.lines.proofs.FieldLaws.{filled_none, filled_more, filled_done}
 use Rattle.lines.proofs.figures_into.Goals as goal
 
-pub loop-left-preserved : goal.loop-left-preserved
-loop-left-preserved c =
-    let l = c.loop-left in
+pub loop-i-init : goal.loop-i-init
+loop-i-init c = let a = c.args in filled_none a.text.now a.from a.count a.out.now a.base (omega arith)
+
+pub loop-i-preserved : goal.loop-i-preserved
+loop-i-preserved c =
+    let l = c.loop-i in
     let a = c.args in
     let fits : SFits w64 c.field_at-f.result.value = search rules in
     filled_more c.field_at-f.result _ l.invariant (omega arith)
@@ -20,8 +22,4 @@ loop-left-preserved c =
     (to_z-of_z {w = w64} fits)
 
 pub returns : goal.returns
-returns c =
-    let l = c.loop-left in
-    let a = c.args in
-    let e = filled-end a.text.now l.at l.left (omega arith) in
-    (sym (l.invariant.ends ∙ ap (λ (f : FiguresRead). f.next) e), sym (l.invariant.held ∙ ap (λ (f : FiguresRead). sets l.out l.i f.values) e))
+returns c = filled_done c.loop-i.invariant (omega arith)

@@ -2,8 +2,5 @@
 use Rattle.lines.proofs.FieldLaws.{Filled}
 use Rattle.lines.proofs.figures_into.Given as goal
 
-abbrev pub invariant-loop-left : goal.invariant-loop-left
-invariant-loop-left l = Filled l.text l.from l.count l.initial.out l.base l.out l.at l.i l.left
-
-abbrev pub decreases-loop-left : goal.decreases-loop-left
-decreases-loop-left l = l.left
+abbrev pub invariant-loop-i : goal.invariant-loop-i
+invariant-loop-i l = Filled l.text l.from l.count l.initial.out l.base l.out l.at l.i

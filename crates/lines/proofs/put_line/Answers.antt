@@ -20,19 +20,20 @@ loop-i-preserved c =
     let l = c.loop-i in
     let a = c.args in
     let k = c.put_field-at in
-    let h : SFits w64 (get_or a.numbers.now l.i (pos 0)) = by (search whole depth 20) (omega facts) in
+    let x = get_or a.numbers.now l.i (pos 0) in
+    let left : length a.numbers.now - 1 - l.i ≡ length a.numbers.now - (l.i + 1) = omega arith in
+    let h : SFits w64 x = by (search whole depth 20) (omega facts) in
     let x-is = to_z-of_z {w = w64} h in
-    let close-is = c.close_of.ensures in
-    let piece = field (get_or a.numbers.now l.i (pos 0)) (close_of (length a.numbers.now - (l.i + 1))) in
+    let close-is = c.close_of.ensures ∙ ap close_of left in
+    let piece = field x (close_of (length a.numbers.now - (l.i + 1))) in
     let r-is : k.result ≡ l.at + length piece = k.ensures.0 ∙ (λ j. l.at + length (field (x-is j) (close-is j))) in
     let out_is : k.new.out ≡ sets l.out l.at piece = k.ensures.1 ∙ (λ j. sets l.out l.at (field (x-is j) (close-is j))) in (
-      omega arith,
-      omega (arith, r-is, k.auto.out, field-length (get_or a.numbers.now l.i (pos 0)) (close_of (length a.numbers.now - (l.i + 1)))),
-      wrote_more l.invariant.2 piece (numbers_line (drop (l.i + 1) a.numbers.now)) (line-more a.numbers.now l.i (omega arith)) r-is out_is,
+      omega (arith, r-is, k.auto.out, field-length x (close_of (length a.numbers.now - (l.i + 1)))),
+      wrote_more l.invariant.1 piece (numbers_line (drop (l.i + 1) a.numbers.now)) (line-more a.numbers.now l.i (omega arith)) r-is out_is,
     )
 
 pub returns : goal.returns
 returns c =
     let l = c.loop-i in
     let a = c.args in
-    wrote_done l.invariant.2 (ap numbers_line (drop_of_length-le a.numbers.now {i = l.i} (omega arith)) ∙ line-none)
+    wrote_done l.invariant.1 (ap numbers_line (drop_of_length-le a.numbers.now {i = l.i} (omega arith)) ∙ line-none)

@@ -6,7 +6,4 @@ use Rattle.lines.proofs.WriteLaws.{Wrote}
 use Rattle.lines.proofs.put_line.Given as goal
 
 abbrev pub invariant-loop-i : goal.invariant-loop-i
-invariant-loop-i l = (l.i ≤ length l.numbers) × (l.at + (length l.numbers - l.i) * 22 ≤ length l.out) × Wrote l.initial.out l.from (numbers_line l.numbers) l.out l.at (numbers_line (drop l.i l.numbers))
-
-abbrev pub decreases-loop-i : goal.decreases-loop-i
-decreases-loop-i l = length l.numbers - l.i
+invariant-loop-i l = (l.at + (length l.numbers - l.i) * 22 ≤ length l.out) × Wrote l.initial.out l.from (numbers_line l.numbers) l.out l.at (numbers_line (drop l.i l.numbers))

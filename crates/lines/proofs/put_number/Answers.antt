@@ -17,9 +17,9 @@ returns-then-x-lt0 c =
     let a = c.args in
     let x-is = to_z-of_z {w = w64} c.ranges.x in
     let d = c.put_natural in
-    let e : 45 ∷ natural c.nat_abs.result ≡ decimal a.x =
-    rw (c.nat_abs.ensures, x-is) (decimal-below a.x (simp x-is at c.if-x-lt0.true)) in
-    let f : a.at + 1 + length (natural c.nat_abs.result) ≡ a.at + length (45 ∷ natural c.nat_abs.result) = omega arith in (
+    let e : 45 ∷ natural c.unsigned_abs.result ≡ decimal a.x =
+    rw (c.unsigned_abs.ensures.value, x-is) (decimal-below a.x (simp x-is at c.if-x-lt0.true)) in
+    let f : a.at + 1 + length (natural c.unsigned_abs.result) ≡ a.at + length (45 ∷ natural c.unsigned_abs.result) = omega arith in (
       d.ensures.0 ∙ f ∙ ap (λ (l : List ℕ). a.at + length l) e,
       d.ensures.1 ∙ rw (add-one a.at) (ap (λ (l : List ℕ). sets a.out.now a.at l) e),
     )
@@ -29,6 +29,6 @@ returns c =
     let a = c.args in
     let x-is = to_z-of_z {w = w64} c.ranges.x in
     let d = c.put_natural-2 in
-    let e : natural c.nat_abs-2.result ≡ decimal a.x =
-    rw (c.nat_abs-2.ensures, x-is) (decimal-above a.x (simp x-is at c.if-x-lt0.false)) in
+    let e : natural c.unsigned_abs-2.result ≡ decimal a.x =
+    rw (c.unsigned_abs-2.ensures.value, x-is) (decimal-above a.x (simp x-is at c.if-x-lt0.false)) in
     (d.ensures.0 ∙ ap (λ (l : List ℕ). a.at + length l) e, d.ensures.1 ∙ ap (λ (l : List ℕ). sets a.out.now a.at l) e)
