@@ -1,6 +1,8 @@
 -- The counts of a table of contents are small, and so is its bad line; and what makes a table. Assumes nothing.
 use mathlib.Core.Path.{◌≡◌, refl, ap, ◌∙◌}
-use mathlib.Core.Bool.{Bool, true, false, cond}
+use mathlib.Core.Bool.{Bool, true, false, cond, not}
+use Rattle.std.specs.List.{take_while}
+use Rattle.std.proofs.lemmas.List.Sums.{take_while-cons}
 use mathlib.Core.List.{List, [], ◌∷◌}
 use Prim.Native.Nat.{ℕ, zero, suc, ◌+◌, ◌≤◌}
 use native.Mathlib.Nat.{not-suc-le-zero}
@@ -26,6 +28,16 @@ first_step k l false h = omega arith
 first-low : (k : ℕ) (l : List ℕ) → first_lost k l ≤ k + length l
 first-low k [] = omega arith
 first-low k (a ∷ l) = first_step k l (eqb a lost) (first-low (k + 1) l)
+
+lost_step : (a : ℕ) (l : List ℕ) (k : ℕ) (t : Bool) → k + 1 + length (take_while (λ b. not (eqb b lost)) l) ≡ first_lost (k + 1) l
+    → k + length (cond (not t) (a ∷ take_while (λ b. not (eqb b lost)) l) []) ≡ cond t k (first_lost (k + 1) l)
+lost_step a l k true h = omega arith
+lost_step a l k false h = omega (arith, h)
+
+-- the places before the first that is lost
+pub lost_after : (l : List ℕ) (k : ℕ) → k + length (take_while (λ a. not (eqb a lost)) l) ≡ first_lost k l
+lost_after [] k = omega arith
+lost_after (a ∷ l) k = rw (take_while-cons (λ b. not (eqb b lost)) a l) (lost_step a l k (eqb a lost) (lost_after l (k + 1)))
 
 count_few : (text : List ℕ) (at : ℕ) (w : List ℕ) (low high : ℕ) → (count_line text at w low high).count ≤ high
 unfolding count_line

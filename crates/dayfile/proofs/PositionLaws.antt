@@ -1,22 +1,25 @@
 -- A position's line, by the four fields that were read, and by what they say. Assumes nothing.
 use mathlib.Core.Path.{◌≡◌, refl}
-use mathlib.Core.Bool.{true, false, cond}
+use mathlib.Core.Bool.{Bool, true, false, cond}
 use mathlib.Core.List.{List}
 use Prim.Native.Nat.{ℕ}
 use lib.IntN.{ℤ, nat_abs}
+use Rattle.std.proofs.Common.{Some, None}
 use Rattle.whole.specs.Number.{is_one_of}
 use Rattle.places.specs.declared.Shape.{Shape}
-use Rattle.lines.specs.Lines.{lost, field_at}
+use Rattle.lines.specs.Lines.{lost}
 use Rattle.dayfile.specs.InsideDayfile.{Positioned}
 use Rattle.dayfile.specs.Sections.{Stated, stated, holding_at, position_at}
 use Rattle.dayfile.specs.declared.Holding.{Holding}
-use Rattle.lines.specs.declared.Field.{Field}
 
--- the four fields in a row
-pub holding-is : (text : List ℕ) (at : ℕ) (a j lots book : Field)
-    → a ≡ field_at text at 32 → j ≡ field_at text a.next 32 → lots ≡ field_at text j.next 32 → book ≡ field_at text lots.next 10
-    → ◌≡◌ {A = Holding} (record { account = a.value; product = j.value; lots = lots.value; book = book.value; next = book.next }) (holding_at text at)
-holding-is text at a j lots book ea ej el eb = rw (eb, el, ej, ea) refl
+-- which of n things a number names, or none
+pub named_none : (k : ℕ) (b : Bool) → None ≡ cond b (Some k) None → b ≡ false
+named_none k true e = cc
+named_none k false e = refl
+
+pub named_some : (a k : ℕ) (b : Bool) → Some a ≡ cond b (Some k) None → (b ≡ true) × (a ≡ k)
+named_some a k true e = (refl, cc)
+named_some a k false e = (cc, cc)
 
 module _ (text : List ℕ) (s : Shape) (at : ℕ) (sofar : Stated) (h : Holding) (e : h ≡ holding_at text at) where
   position_is : position_at text s at sofar

@@ -1,18 +1,18 @@
 // The day file, read (01, "The day file and the sheet"), line by line through the view of `reader`: the table of contents; the bodies, of which
-// `sections` has all but the calls. What reads a line takes a text and a place in it, and gives the next place, or LOST. The number of a line goes
-// up only past a good line, so that the first bad one needs no search.
+// `sections` has all but the calls. What reads a line gives the next place, or LOST. The number of a line goes up only past a good line, so that the
+// first bad one needs no search.
 #![tactic(auto)]
 
-mod body;
 pub mod reader;
 mod sections;
 
-ghost use Rattle.std.specs.Prelude.{◌≡◌, ◌∷◌, [], ◌+◌, ◌<◌, ◌≤◌, pos, length, replicate, get_or};
+ghost use Rattle.std.specs.Prelude.{not, ◌==◌, ◌≡◌, ◌∷◌, [], ◌+◌, ◌<◌, ◌≤◌, pos, length, replicate, get_or};
+ghost use Rattle.std.specs.List.{take_while};
 ghost use Rattle.std.proofs.lemmas.List.Edits.{sets};
 ghost use Rattle.whole.specs.Counting.{figure_at};
 ghost use Rattle.places.specs.Place.{words_of};
 ghost use Rattle.places.specs.Act.{most_products};
-ghost use Rattle.lines.specs.Lines.{past, line_start_of, first_lost};
+ghost use Rattle.lines.specs.Lines.{lost, line_start_of, first_lost};
 ghost use Rattle.dayfile.specs.CallLines.{most_figures, figures_of, gap, call_at, calls_from, column};
 ghost use Rattle.dayfile.specs.Day.{ended, start_of};
 ghost use Rattle.dayfile.specs.InsideDayfile.{given_of, Modest, Bodied};
@@ -68,43 +68,32 @@ pub struct Bodies {
 
 // ---- the table of contents
 
-// The number of the first of six places that is lost, or 7.
-fn first_lost(a: usize, b: usize, c: usize, d: usize, e: usize, f: usize) -> usize
-    ensures { result ≡ first_lost 1 (a ∷ b ∷ c ∷ d ∷ e ∷ f ∷ []) }
+// How many of six places stand before the first that is lost.
+fn good_before(places: [usize; 6]) -> usize
+    ensures { result ≡ length (take_while (λ at. not (at == lost)) places) }
 {
-    if a == LOST {
-        return 1;
-    }
-    if b == LOST {
-        return 2;
-    }
-    if c == LOST {
-        return 3;
-    }
-    if d == LOST {
-        return 4;
-    }
-    if e == LOST {
-        return 5;
-    }
-    if f == LOST {
-        return 6;
-    }
-    7
+    places.iter().take_while(|at| **at != LOST).count()
+}
+
+// The number of the first of six places that is lost, or 7.
+#[tactic(auto, using(crate::proofs::ContentsLaws::lost_after))]
+fn first_lost(places: [usize; 6]) -> usize
+    ensures { result ≡ first_lost 1 places }
+{
+    1 + good_before(places)
 }
 
 // What the six lines of the table say: where the first and the last ended, and the counts between them.
 fn contents_of(first: usize, p: Counted, n: Counted, m: Counted, c: Counted, end: usize) -> Contents
     ensures { result ≡ table_of first p n m c end }
 {
-    let line = first_lost(first, p.next, n.next, m.next, c.next, end);
     Contents {
         products: p.count,
         accounts: n.count,
         positions: m.count,
         calls: c.count,
         at: end,
-        line,
+        line: first_lost([first, p.next, n.next, m.next, c.next, end]),
     }
 }
 
@@ -125,94 +114,58 @@ pub fn read_contents(text: &[u8]) -> Contents
 // ---- calls
 
 // How many figures follow a call's letter; more than any call has behind a byte that begins no call.
+#[tactic(auto, unfolding(crate::specs::CallLines::figures_of))]
 pub fn figures_of(p: usize, letter: u8) -> usize
     requires { p ≤ most_products }
     ensures { result ≡ figures_of p letter }
 {
-    if letter == b'D' {
-        return 2;
+    match letter {
+        b'D' | b'W' => 2,
+        b'G' => 3,
+        b'B' | b'S' => 0,
+        b'T' => 5,
+        b'C' => p * 4,
+        _ => NO_CALL,
     }
-    if letter == b'W' {
-        return 2;
-    }
-    if letter == b'G' {
-        return 3;
-    }
-    if letter == b'B' {
-        return 0;
-    }
-    if letter == b'S' {
-        return 0;
-    }
-    if letter == b'T' {
-        return 5;
-    }
-    if letter == b'C' {
-        return p * 4;
-    }
-    NO_CALL
-}
-
-// The place behind what stands between a letter and its k figures.
-fn past_gap(text: &[u8], at: usize, k: usize) -> usize
-    ensures { result ≡ past text.now at (gap k) }
-{
-    if k == 0 {
-        return lines::past_word(text, at, b"\n");
-    }
-    lines::past_word(text, at, b" ")
 }
 
 // A call's letter, through a view at its place.
 pub fn letter_there(text: &[u8], at: usize) -> u8
     ensures { result ≡ get_or text.now at 0 }
 {
-    Reader::new(text).moved(at).letter()
+    Reader { text, at }.letter()
 }
 
-// A call's line, through a view at its place. The order of what is passed is that of every body line, so that one law proves them all.
-fn call_there(text: &[u8], at: usize, figures: &mut [i64], p: usize) -> usize
-    requires { (p ≤ most_products) × (most_figures ≤ length figures.old) }
-    ensures { (result ≡ (call_at text.now p at).next) × (figures.new ≡ sets figures.old 0 (call_at text.now p at).values) }
-{
-    Reader::new(text).moved(at).call(figures, p)
-}
-
-// A call's line: its figures.
+// A call's line, the same way: its figures.
 pub fn call_line(text: &[u8], p: usize, at: usize, figures: &mut [i64]) -> usize
     requires { (p ≤ most_products) × (most_figures ≤ length figures.old) }
     ensures { (result ≡ (call_at text.now p at).next) × (figures.new ≡ sets figures.old 0 (call_at text.now p at).values) }
 {
-    call_there(text, at, figures, p)
+    Reader { text, at }.call(figures, p)
 }
 
 // The first pass over the calls: are their lines well formed?
-fn calls(
-    text: &[u8],
-    from: usize,
-    first: usize,
-    count: usize,
-    p: usize,
-    figures: &mut [i64],
-) -> LineStart
-    requires fact_1 { first + count < 18446744073709551616 }
+fn calls(text: &[u8], from: LineStart, count: usize, p: usize, figures: &mut [i64]) -> LineStart
+    requires fact_1 { from.line + count < 18446744073709551616 }
     requires fact_2 { p ≤ most_products }
     requires fact_3 { most_figures ≤ length figures.old }
-    ensures { result ≡ line_start_of (calls_from text.now from first p count) }
+    ensures { result ≡ line_start_of (calls_from text.now from.at from.line p count) }
 {
-    let mut at = from;
-    let mut line = first;
-    let mut i = 0;
-    while i < count {
+    let mut at = from.at;
+    for i in 0..count {
         let next = call_line(text, p, at, figures);
         if next == LOST {
-            return LineStart { at: next, line };
+            return LineStart {
+                at: LOST,
+                line: from.line + i,
+            };
         }
         at = next;
-        line += 1;
-        i += 1;
     }
-    LineStart { at, line }
+    LineStart {
+        at,
+        line: from.line + count,
+    }
 }
 
 // ---- the bodies
@@ -230,22 +183,20 @@ fn start_into(text: &[u8], c: Contents, words: &mut [i64]) -> LineStart
     requires fact_2 { words.old ≡ replicate (words_of (ledger_shape c)) (pos 0) }
     ensures { (result ≡ line_start_of (start_of text.now c)) × (words.new ≡ (start_of text.now c).held.words) }
 {
-    let n = c.accounts;
-    let p = c.products;
-    let s = Shape { n, p };
-    let m = c.positions;
-    let at = c.at;
-    let line = c.line;
-    places::put_head(words, s, places::ACCOUNTS, n as i64);
-    places::put_head(words, s, places::PRODUCTS, p as i64);
-    let a = sections::products(text, at, line, s, words);
-    let at2 = a.at;
-    let line2 = a.line;
-    let b = sections::accounts(text, at2, line2, s, words);
-    let at3 = b.at;
-    let line3 = b.line;
+    let s = Shape {
+        n: c.accounts,
+        p: c.products,
+    };
+    places::put_head(words, s, places::ACCOUNTS, s.n as i64);
+    places::put_head(words, s, places::PRODUCTS, s.p as i64);
+    let from = LineStart {
+        at: c.at,
+        line: c.line,
+    };
+    let a = sections::products(text, from, s, words);
+    let b = sections::accounts(text, a, s, words);
     let mut marks = [0u8; places::MOST_HELD];
-    sections::positions(text, at3, line3, m, s, words, &mut marks)
+    sections::positions(text, b, c.positions, s, words, &mut marks)
 }
 
 // The bodies, into words that are all 0: the place behind the last call and that of the first.
@@ -254,32 +205,24 @@ pub fn bodies_into(text: &[u8], c: Contents, words: &mut [i64]) -> Bodies
     requires fact_2 { words.old ≡ replicate (words_of (ledger_shape c)) (pos 0) }
     ensures { Bodied text.now c result words.new }
 {
-    let p = c.products;
-    let k = c.calls;
     let start = start_into(text, c, words);
-    let from = start.at;
-    let first = start.line;
     let mut figures = [0i64; MOST_FIGURES];
-    let e = calls(text, from, first, k, p, &mut figures);
-    let at = e.at;
-    let line = e.line;
+    let e = calls(text, start, c.calls, c.products, &mut figures);
     Bodies {
-        at: end_of(text, at),
-        line: line,
-        calls_at: from,
+        at: end_of(text, e.at),
+        line: e.line,
+        calls_at: start.at,
     }
 }
 
 // How many figures a call's line gave.
+#[tactic(auto, unfolding(crate::specs::InsideDayfile::given_of))]
 pub fn given_of(p: usize, letter: u8) -> usize
     requires { p ≤ most_products }
     ensures { (result ≡ given_of p letter) × (result ≤ most_figures) }
 {
     let k = figures_of(p, letter);
-    if k > MOST_FIGURES {
-        return 0;
-    }
-    k
+    if k > MOST_FIGURES { 0 } else { k }
 }
 
 // ---- a close's columns
@@ -288,10 +231,7 @@ pub fn given_of(p: usize, letter: u8) -> usize
 pub fn figure_at(figures: &[i64], i: usize) -> i64
     ensures { result ≡ figure_at figures.now i }
 {
-    if i < figures.len() {
-        return figures[i];
-    }
-    0
+    figures.get(i).copied().unwrap_or(0)
 }
 
 // Every fourth figure from the k-th on, for p products.
@@ -301,10 +241,7 @@ pub fn column_into(figures: &[i64], k: usize, p: usize, out: &mut [i64])
     requires fact_3 { p ≤ length out.old }
     ensures { out.new ≡ sets out.old 0 (column k p figures.now) }
 {
-    let mut j = 0;
-    while j < p {
-        let v = figure_at(figures, j * 4 + k);
-        out[j] = v;
-        j += 1;
+    for j in 0..p {
+        out[j] = figure_at(figures, j * 4 + k);
     }
 }

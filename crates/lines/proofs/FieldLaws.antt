@@ -2,7 +2,7 @@
 use mathlib.Core.Path.{◌≡◌, refl, sym, ◌∙◌, ap}
 use mathlib.Core.List.{List, []}
 use Prim.Native.Nat.{ℕ, zero, suc, ◌+◌, ◌-◌, ◌≤◌, ◌<◌}
-use native.Mathlib.Nat.{add-zero, not-suc-le-zero}
+use native.Mathlib.Nat.{not-suc-le-zero}
 use native.Mathlib.Omega.{arith}
 use lib.IntN.{ℤ}
 use lib.ListN.{length, set, length-set}
@@ -27,11 +27,6 @@ pub record Filled (text : List ℕ) (from count : ℕ) (out₀ : List ℤ) (base
   pub same : length out ≡ length out₀
   pub ends : (figures_at text from count).next ≡ (figures_at text at (count - i)).next
   pub held : sets out₀ base (figures_at text from count).values ≡ sets out (base + i) (figures_at text at (count - i)).values
-
-pub filled_none : (text : List ℕ) (from count : ℕ) (out : List ℤ) (base : ℕ) → base + count ≤ length out → Filled text from count out base out from 0
-filled_none text from count out base h =
-    let e : count - 0 ≡ count = omega arith in
-    record { within = omega arith; room = h; same = refl; ends = rw e; held = rw (e, add-zero base) }
 
 pub filled_more : {text : List ℕ} {from count : ℕ} {out₀ : List ℤ} {base : ℕ} {out : List ℤ} {at i : ℕ} (f : Field) (v : ℤ) → Filled text from count out₀ base out at i → i < count → f ≡ field_at text at (close_of (count - 1 - i)) → v ≡ f.value → Filled text from count out₀ base (set out (base + i) v) f.next (i + 1)
 filled_more {text} {from} {count} {out₀} {base} {out} {at} {i} f v s h e d =

@@ -1,7 +1,7 @@
 -- A loop over the lines of a section: one law for every line reader. Assumes nothing.
 use mathlib.Core.Path.{◌≡◌, refl, sym, ◌∙◌, ap}
 use mathlib.Core.Bool.{cond}
-use Prim.Native.Nat.{ℕ, zero, suc, ◌+◌, ◌-◌, ◌≤◌, ◌<◌, zero-le}
+use Prim.Native.Nat.{ℕ, zero, suc, ◌+◌, ◌-◌, ◌≤◌, ◌<◌}
 use native.Mathlib.Omega.{arith}
 use native.Mathlib.Nat.{not-suc-le-zero}
 use lib.Dec.{eqb}
@@ -20,26 +20,27 @@ module _ {M : Type 0} (read : ℕ → ℕ → M → Line M) where
     pub grown : s.line ≡ s₀.line + i
     pub goes : lines read count 0 s₀ ≡ lines read (count - i) i s
 
-  pub onward-none : (count : ℕ) (s : Stand M) → Onward count s 0 s
-  onward-none count s = record { low = zero-le; grown = omega arith; goes = let e : count - 0 ≡ count = omega arith in rw e }
-
-  pub onward-more : {count : ℕ} {s₀ : Stand M} {i : ℕ} {s : Stand M} → Onward count s₀ i s → i < count → (l : Line M) → l ≡ read i s.at s.held → (l.next ≡ lost → ⊥) → Onward count s₀ (i + 1) (record { at = l.next; line = s.line + 1; held = l.held })
+  pub onward-more : {count : ℕ} {s₀ : Stand M} {i : ℕ} {s : Stand M} → Onward count s₀ i s → i < count → (l : Line M) → l ≡ read i s.at s.held → (l.next ≡ lost → ⊥) → Onward count s₀ (i + 1) (record { at = l.next; line = s₀.line + (i + 1); held = l.held })
   onward-more {count} {s₀} {i} {s} o h l e n =
       record {
         low = omega arith;
-        grown = omega (arith, o.grown);
+        grown = refl;
         goes =
             o.goes ∙ lines_step (count - i) i s (omega arith)
             ∙ ap (λ (x : Line M). cond (eqb x.next lost) (onward s.line x) (lines read (count - i - 1) (i + 1) (onward s.line x))) (sym e)
-            ∙ rw (ne_eqb l.next lost n, less) refl;
+            ∙ rw (ne_eqb l.next lost n, less, on) refl;
       }
     where
       less : count - i - 1 ≡ count - (i + 1)
       less = omega arith
 
-  pub onward_bad : {count : ℕ} {s₀ : Stand M} {i : ℕ} {s : Stand M} → Onward count s₀ i s → i < count → (l : Line M) → l ≡ read i s.at s.held → l.next ≡ lost → record { at = l.next; line = s.line; held = l.held } ≡ lines read count 0 s₀
+      on : s.line + 1 ≡ s₀.line + (i + 1)
+      on = omega (arith, o.grown)
+
+  pub onward_bad : {count : ℕ} {s₀ : Stand M} {i : ℕ} {s : Stand M} → Onward count s₀ i s → i < count → (l : Line M) → l ≡ read i s.at s.held → l.next ≡ lost → record { at = lost; line = s₀.line + i; held = l.held } ≡ lines read count 0 s₀
   onward_bad {count} {s₀} {i} {s} o h l e n =
-      sym
+      (λ j. record { at = sym n j; line = sym o.grown j; held = l.held })
+      ∙ sym
       (o.goes ∙ lines_step (count - i) i s (omega arith)
       ∙ ap (λ (x : Line M). cond (eqb x.next lost) (onward s.line x) (lines read (count - i - 1) (i + 1) (onward s.line x))) (sym e)
       ∙ rw (eq-eqb l.next lost n) refl)
@@ -49,8 +50,11 @@ module _ {M : Type 0} (read : ℕ → ℕ → M → Line M) where
   lines_none zero i s h = refl
   lines_none (suc k) i s h = absurd (not-suc-le-zero h)
 
-  pub onward-done : {count : ℕ} {s₀ : Stand M} {i : ℕ} {s : Stand M} → Onward count s₀ i s → count ≤ i → s ≡ lines read count 0 s₀
-  onward-done {count} {s₀} {i} {s} o h = lines_none (count - i) i s (omega arith) ∙ sym o.goes
+  pub onward-done : {count : ℕ} {s₀ : Stand M} {i : ℕ} {s : Stand M} → Onward count s₀ i s → count ≤ i → record { at = s.at; line = s₀.line + count; held = s.held } ≡ lines read count 0 s₀
+  onward-done {count} {s₀} {i} {s} o h = (λ j. record { at = s.at; line = full j; held = s.held }) ∙ lines_none (count - i) i s (omega arith) ∙ sym o.goes
+    where
+      full : s₀.line + count ≡ s.line
+      full = omega (arith, o.low, o.grown)
 
 pub line_by : {M : Type 0} {n m : ℕ} {g h : M} → n ≡ m → g ≡ h → ◌≡◌ {A = Line M} (record { next = n; held = g }) (record { next = m; held = h })
 line_by p q = λ x. record { next = p x; held = q x }

@@ -2,16 +2,14 @@
 use mathlib.Core.Path.{◌≡◌, refl, sym, ◌∙◌, ap}
 use mathlib.Core.Bool.{Bool, true, false, true≢false, cond, ◌&&◌}
 use mathlib.Core.List.{List, [], ◌∷◌}
-use Prim.Native.Nat.{ℕ, zero, suc, ◌+◌, ◌*◌, ◌-◌, ◌≤◌, ◌<◌, min}
+use Prim.Native.Nat.{ℕ, suc, ◌+◌, ◌*◌, ◌-◌, ◌≤◌, ◌<◌, min}
 use native.Mathlib.Numerals.{add-one}
 use native.Mathlib.Omega.{arith}
 use borrow.Author.Tests.{lt-ltb, le-ltb, eq-eqb, ne_eqb, eqb-true, ltb-true, ltb-false}
-use lib.Dec.{ltb, eqb, lit<}
-use lib.IntN.{pos, neg_ℤ, ◌-ℤ◌, +ℤ_idl}
+use lib.Dec.{ltb, eqb}
+use lib.IntN.{pos, neg_ℤ}
 use lib.ListN.{length, take, drop, get_or, drop_of_length-le, length-take, length-drop, get_or-eq_default}
 use lib.Seq.{drop-cons, take_all}
-use mir.Syntax.{w64}
-use mir.Val.{SFits}
 use native.Mathlib.Nat.{add-zero}
 use Rattle.std.proofs.Common.{◌⊎◌, inl, inr}
 use Rattle.std.specs.List.{starts_with as prefix}
@@ -98,9 +96,6 @@ pub record Seen (text : List ℕ) (at i value : ℕ) : Type 0 where
   pub ends : at + length (leading_digits (drop at text)) ≡ i + length (leading_digits (drop i text))
   pub reads : nat_from 0 (leading_digits (drop at text)) ≡ nat_from v (leading_digits (drop i text))
   pub caps : value ≡ capped v
-
-pub seen_none : (text : List ℕ) (at : ℕ) → Seen text at at 0
-seen_none text at = record { v = 0; ends = refl; reads = refl; caps = refl }
 
 pub seen_done : (text : List ℕ) (at i value : ℕ) → leading_digits (drop i text) ≡ [] → Seen text at i value → ◌≡◌ {A = LeadingDigits} (record { end = i; value = value }) (digits_at text at)
 unfolding digits_at
@@ -202,21 +197,3 @@ one_digit text at d within r e =
     ap (λ (x : LeadingDigits). x.value) r ∙ ap (λ (s : List ℕ). capped (nat_from 0 (leading_digits s))) k ∙
     one_by (get_or text at 0) (drop (suc at) text) (ltb (get_or text at 0) 48) (ltb 57 (get_or text at 0)) refl
     (omega (arith, e, ap (λ (x : LeadingDigits). x.end) r, ap (λ (s : List ℕ). length (leading_digits s)) k))
-
-one_plain_by : (lead from end value : ℕ) (t : Bool) → eqb lead 48 ≡ t → lead < 256 → end ≡ from + 1 → value ≡ lead - 48 →
-    Value (pos value) end ≡ plain_of lead from end value
-one_plain_by lead from end value true t h one v =
-    rw (ne_eqb end from (omega arith), t, eq-eqb end (from + 1) one) (ap (λ (n : ℕ). Value (pos n) end) (omega (arith, eqb-true lead 48 t)))
-one_plain_by lead from end value false t h one v = rw (ne_eqb end from (omega arith), t, le-ltb 9223372036854775807 value (omega arith))
-
--- a single digit is its own number, 0 too
-pub one_plain : (lead from end value : ℕ) → lead < 256 → end ≡ from + 1 → value ≡ lead - 48 → Value (pos value) end ≡ plain_of lead from end value
-one_plain lead from end value = one_plain_by lead from end value (eqb lead 48) refl
-
--- ---- the negative of a number below 2 ^ 63
-pub neg_is : (v : ℕ) → pos 0 -ℤ pos v ≡ neg_ℤ (pos v)
-neg_is v = +ℤ_idl (neg_ℤ (pos v))
-
-pub neg_fits : (v : ℕ) → v < 9223372036854775808 → SFits w64 (neg_ℤ (pos v))
-neg_fits zero h = record { sfits = lit< tt }
-neg_fits (suc v) h = record { sfits = omega arith }

@@ -19,11 +19,10 @@ pub loop-j-preserved : goal.loop-j-preserved
 loop-j-preserved c =
     let l = c.loop-j in
     let a = c.args in
-    let h : SFits w64 c.figure_at-v.result = by (search whole depth 20) (omega facts) in
-    let v-is = to_z-of_z {w = w64} h ∙ c.figure_at-v.ensures in
+    let h : SFits w64 c.figure_at.result = by (search whole depth 20) (omega facts) in
+    let v-is = to_z-of_z {w = w64} h ∙ c.figure_at.ensures in
     let less : a.p - l.j - 1 ≡ a.p - (l.j + 1) = omega arith in (
-      omega arith,
-      simp length-set l.invariant.1,
-      l.invariant.2 ∙ ap (λ (x : List ℤ). sets l.out l.j x) (column-more a.figures.now a.k l.j (a.p - l.j) (omega arith))
+      simp length-set l.invariant.0,
+      l.invariant.1 ∙ ap (λ (x : List ℤ). sets l.out l.j x) (column-more a.figures.now a.k l.j (a.p - l.j) (omega arith))
           ∙ (λ i. sets (set l.out l.j (sym v-is i)) (sym (add-one l.j) i) (column a.k (less i) (drop ((l.j + 1) * 4) a.figures.now))),
     )

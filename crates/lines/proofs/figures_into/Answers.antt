@@ -6,11 +6,8 @@ use mir.Syntax.{w64}
 use mir.Val.{SFits}
 use mir.Facts.{to_z-of_z}
 use Rattle.lines.specs.Lines.{field_at}
-use Rattle.lines.proofs.FieldLaws.{filled_none, filled_more, filled_done}
+use Rattle.lines.proofs.FieldLaws.{filled_more, filled_done}
 use Rattle.lines.proofs.figures_into.Goals as goal
-
-pub loop-i-init : goal.loop-i-init
-loop-i-init c = let a = c.args in filled_none a.text.now a.from a.count a.out.now a.base (omega arith)
 
 pub loop-i-preserved : goal.loop-i-preserved
 loop-i-preserved c =
