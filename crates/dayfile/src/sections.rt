@@ -8,6 +8,7 @@ ghost use Rattle.places.specs.PlaceLaws.{Sized};
 ghost use Rattle.dayfile.specs.InsideDayfile.{Statement, Positioned, AllPositioned};
 ghost use Rattle.dayfile.specs.Sections.{products_from, accounts_from, position_at, positions_from};
 
+use super::Holding;
 use super::reader::Reader;
 use lines::{LOST, LineStart};
 use places::Shape;
@@ -67,23 +68,21 @@ fn state_position(
     s: Shape,
     a: usize,
     j: usize,
-    q: i64,
-    b: i64,
-    next: usize,
+    h: Holding,
 ) -> usize
     requires fact_1 { Sized s words.old }
     requires fact_2 { Has s (lots a j) }
     requires fact_3 { a * s.p + j < length marks.old }
-    ensures { Statement s a j q b next words.old marks.old result words.new marks.new }
+    ensures { Statement s a j h.lots h.book h.next words.old marks.old result words.new marks.new }
 {
     let k = a * s.p + j;
     if marks[k] != 0 {
         return LOST;
     }
     marks[k] = 1;
-    places::put_held(words, s, a, j, places::LOTS, q);
-    places::put_held(words, s, a, j, places::BOOK, b);
-    next
+    places::put_held(words, s, a, j, places::LOTS, h.lots);
+    places::put_held(words, s, a, j, places::BOOK, h.book);
+    h.next
 }
 
 // A position's line: what it says is stated, if it is of an account and a product that there are.
@@ -99,7 +98,7 @@ fn position_line(text: &[u8], at: usize, s: Shape, words: &mut [i64], marks: &mu
     let Some(j) = whole::index_of(h.product, s.p) else {
         return LOST;
     };
-    state_position(words, marks, s, a, j, h.lots, h.book, h.next)
+    state_position(words, marks, s, a, j, h)
 }
 
 // The positions' lines, up to the first bad one.

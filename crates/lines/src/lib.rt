@@ -81,35 +81,35 @@ pub fn byte_at(text: &[u8], at: usize) -> u8
 }
 
 // The number of a run of digits after a minus.
-fn minus_of(lead: u8, from: usize, end: usize, value: u64) -> Numeral
-    ensures { result ≡ minus_of lead from end value }
+fn minus_of(lead: u8, from: usize, d: LeadingDigits) -> Numeral
+    ensures { result ≡ minus_of lead from d.end d.value }
 {
-    if end == from || lead == b'0' || value > 9223372036854775808 {
+    if d.end == from || lead == b'0' || d.value > 9223372036854775808 {
         return Numeral::Bad;
     }
-    if value == 9223372036854775808 {
-        return Numeral::Value(i64::MIN, end);
+    if d.value == 9223372036854775808 {
+        return Numeral::Value(i64::MIN, d.end);
     }
-    Numeral::Value(-(value as i64), end)
+    Numeral::Value(-(d.value as i64), d.end)
 }
 
 // The number of a run of digits with no sign. A single digit, 0 too, is its own number. The run's length is asked before its leading digit: the
 // loop over the digits has just branched on the length, so that a processor foretells it; nothing foretells which single digits are 0.
-fn plain_of(lead: u8, from: usize, end: usize, value: u64) -> Numeral
+fn plain_of(lead: u8, from: usize, d: LeadingDigits) -> Numeral
     requires fact_1 { from < 18446744073709551615 }
-    requires fact_2 { (end ≡ from + 1 → value ≡ lead - 48) }
-    ensures { result ≡ plain_of lead from end value }
+    requires fact_2 { (d.end ≡ from + 1 → d.value ≡ lead - 48) }
+    ensures { result ≡ plain_of lead from d.end d.value }
 {
-    if end == from {
+    if d.end == from {
         return Numeral::Bad;
     }
-    if end == from + 1 {
-        return Numeral::Value(value as i64, end);
+    if d.end == from + 1 {
+        return Numeral::Value(d.value as i64, d.end);
     }
-    if lead == b'0' || value > 9223372036854775807 {
+    if lead == b'0' || d.value > 9223372036854775807 {
         return Numeral::Bad;
     }
-    Numeral::Value(value as i64, end)
+    Numeral::Value(d.value as i64, d.end)
 }
 
 // A decimal number at a place: no plus, no leading zero, no -0, and it fits 64 bits.
@@ -123,11 +123,9 @@ pub fn number_at(text: &[u8], at: usize) -> Numeral
     if first == b'-' {
         let from = at + 1;
         let lead = byte_at(text, from);
-        let d = digits(text, from);
-        return minus_of(lead, from, d.end, d.value);
+        return minus_of(lead, from, digits(text, from));
     }
-    let d = digits(text, at);
-    plain_of(first, at, d.end, d.value)
+    plain_of(first, at, digits(text, at))
 }
 
 // The place behind a word, or LOST.

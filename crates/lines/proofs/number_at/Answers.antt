@@ -10,13 +10,13 @@ returns-then-text-at c = numeral_none c.args.text.now c.args.at c.if-text-at.tru
 pub returns-then-first-eq45 : goal.returns-then-first-eq45
 returns-then-first-eq45 c =
     let a = c.args in
-    c.minus_of.ensures ∙ numeral_minus a.text.now a.at c.byte_at-lead.result c.digits-d.result c.if-first-eq45.true c.byte_at-lead.ensures c.digits-d.ensures
+    c.minus_of.ensures ∙ numeral_minus a.text.now a.at c.byte_at-lead.result c.digits.result c.if-first-eq45.true c.byte_at-lead.ensures c.digits.ensures
 
 pub plain_of-requires : goal.plain_of-requires
 plain_of-requires c = let a = c.args in
-    record { fact_1 = omega arith; fact_2 = one_digit a.text.now a.at c.digits-d-2.result (omega arith) c.digits-d-2.ensures }
+    record { fact_1 = omega arith; fact_2 = one_digit a.text.now a.at c.digits-2.result (omega arith) c.digits-2.ensures }
 
 pub returns : goal.returns
 returns c =
     let a = c.args in
-    c.plain_of.ensures ∙ numeral_plain a.text.now a.at c.digits-d-2.result c.if-first-eq45.false c.digits-d-2.ensures
+    c.plain_of.ensures ∙ numeral_plain a.text.now a.at c.digits-2.result c.if-first-eq45.false c.digits-2.ensures

@@ -38,13 +38,9 @@ returns c =
     let s : Stated = record { words = a.words.now; marks = a.marks.now } in
     let account_fits : SFits w64 h.account = search rules in
     let product_fits : SFits w64 h.product = search rules in
-    let lots_fits : SFits w64 h.lots = search rules in
-    let book_fits : SFits w64 h.book = search rules in
     let e = named_some _ (nat_abs h.account) (is_one_of a.s.n h.account) (simp (to_z-of_z {w = w64} account_fits) at c.in-Some.ensures) in
     let f = named_some _ (nat_abs h.product) (is_one_of a.s.p h.product) (simp (to_z-of_z {w = w64} product_fits) at c.in-Some-index_of.ensures) in
-    let lots-is = to_z-of_z {w = w64} lots_fits in
-    let book-is = to_z-of_z {w = w64} book_fits in
     let made = c.state_position in
     position_stated a.text.now a.s a.at s h c.position-h.ensures e.0 f.0
     (subst (λ (l : Line Stated). Positioned l made.result made.new.words made.new.marks)
-    (λ i. stated a.s (e.1 i) (f.1 i) (lots-is i) (book-is i) h.next s) made.ensures)
+    (λ i. stated a.s (e.1 i) (f.1 i) h.lots h.book h.next s) made.ensures)
