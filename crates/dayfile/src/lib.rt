@@ -47,7 +47,8 @@ pub struct Holding {
     pub next: usize,
 }
 
-// The table of contents: its counts, the place behind it or LOST, and the number of the line there, or of the bad line.
+// The table of contents: its counts, the place behind it or LOST, and the number of the line there, or of the bad line. It is no Result, since the
+// definition `contents_of` gives the counts of a bad table too.
 #[derive(Clone, Copy)]
 pub struct Contents {
     pub products: usize,
@@ -113,7 +114,8 @@ pub fn read_contents(text: &[u8]) -> Contents
 
 // ---- calls
 
-// How many figures follow a call's letter; more than any call has behind a byte that begins no call.
+// How many figures follow a call's letter; more than any call has behind a byte that begins no call. A letter stays a byte: an enum of the seven would
+// list them twice.
 #[tactic(auto, unfolding(crate::specs::CallLines::figures_of))]
 pub fn figures_of(p: usize, letter: u8) -> usize
     requires { p ≤ most_products }
@@ -144,7 +146,7 @@ pub fn call_line(text: &[u8], p: usize, at: usize, figures: &mut [i64]) -> usize
     Reader { text, at }.call(figures, p)
 }
 
-// The first pass over the calls: are their lines well formed?
+// The first pass over the calls: are their lines well formed? The loop is that of each of the `sections`, which says why it stands here too.
 fn calls(text: &[u8], from: LineStart, count: usize, p: usize, figures: &mut [i64]) -> LineStart
     requires fact_1 { from.line + count < 18446744073709551616 }
     requires fact_2 { p ≤ most_products }

@@ -12,8 +12,7 @@ ghost use Rattle.dayfile.specs.Table.{count_line, past_header, products_count, a
 use super::{ACCOUNT_FIGURES, Counted, Holding, MOST_FIGURES, figures_of};
 use lines::LOST;
 
-// What a line of the table says that can not be read. It has a place too: the next line is read on at LOST, where a text of more than `lines::LONGEST`
-// bytes has a byte (`contents_of`).
+// A line of the table that can not be read. It is a Counted and not a None, since `contents_of` has its 0, and reads the next line at its place.
 const NO_COUNT: Counted = Counted {
     count: 0,
     next: LOST,

@@ -1,5 +1,6 @@
 // The sections of a day file but the calls: products, accounts, positions (01, "The day file and the sheet"). Each writes what its lines state
-// into the ledger's words, up to the first bad line.
+// into the ledger's words, up to the first bad line. Each has its loop written out, for what a line is read into differs (a row of the words; words
+// and marks; of a call, nothing): one loop over a trait would need a type, an impl and a law for each, which is longer than the four loops.
 ghost use Rattle.std.specs.Prelude.{◌≡◌, ◌+◌, ◌*◌, ◌<◌, ◌≤◌, length};
 ghost use Rattle.lines.specs.Lines.{line_start_of};
 ghost use Rattle.places.specs.Place.{Has, lots};
@@ -61,7 +62,8 @@ pub fn accounts(text: &[u8], from: LineStart, s: Shape, words: &mut [i64]) -> Li
     }
 }
 
-// States a position that was not stated yet. A mark for each position tells a repeat, so that no line is compared with those before it.
+// States a position that was not stated yet. A mark for each position tells a repeat, so that no line is compared with those before it. A mark is a byte
+// and not a bool, since `stated` puts a 1.
 fn state_position(
     words: &mut [i64],
     marks: &mut [u8],

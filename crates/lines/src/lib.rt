@@ -10,7 +10,8 @@ ghost use Rattle.lines.specs.Lines.{past, closed_field, field_at, close_of, figu
 ghost use Rattle.lines.specs.Print.{natural, decimal, field, numbers_line};
 ghost use Rattle.lines.specs.Text.{starts_with, word_at, minus_of, plain_of, number_at};
 
-// 01: "a text of at most 65,536 bytes". LOST is a place past every text.
+// 01: "a text of at most 65,536 bytes". LOST is a place past every text. It is a number and not a None, since the definitions `past`, `figures_at` and `up_to`
+// go on with it: a longer text has a byte there, and a good line of it that ends there is bad.
 pub const LONGEST: usize = 65536;
 
 pub const LOST: usize = LONGEST + 1;
@@ -64,7 +65,7 @@ fn digits(text: &[u8], at: usize) -> LeadingDigits
         if value > 922337203685477580 {
             value = 9223372036854775809;
         } else {
-            value = value * 10 + u64::from(b - b'0');
+            value = value * 10 + (u64::from(b) - 48);
         }
     }
     LeadingDigits {
@@ -80,11 +81,18 @@ pub fn byte_at(text: &[u8], at: usize) -> u8
     text.get(at).copied().unwrap_or(0)
 }
 
-// The number of a run of digits after a minus.
+// The number of a run of digits after a minus. It and `plain_of` are two, as in the definitions: the bound differs, and a 0 alone is a number without it.
+// Three tests and not one: with `||` they are joined without a branch, ten instructions more for every number below 0.
 fn minus_of(lead: u8, from: usize, d: LeadingDigits) -> Numeral
     ensures { result ≡ minus_of lead from d.end d.value }
 {
-    if d.end == from || lead == b'0' || d.value > 9223372036854775808 {
+    if d.end == from {
+        return Numeral::Bad;
+    }
+    if lead == b'0' {
+        return Numeral::Bad;
+    }
+    if d.value > 9223372036854775808 {
         return Numeral::Bad;
     }
     if d.value == 9223372036854775808 {
@@ -138,14 +146,14 @@ pub fn past_word(text: &[u8], at: usize, word: &[u8]) -> usize
     LOST
 }
 
-// What a field holds that can not be read. It has a place too: `figures_at` writes its 0, and reads on at LOST, where a text of more than LONGEST bytes
-// has a byte.
+// A field that can not be read. It is a Field and not a None, since `figures_at` writes its 0 and reads on at its place.
 const NO_FIELD: Field = Field {
     value: 0,
     next: LOST,
 };
 
-// A number, and the byte that closes its field.
+// A number, and the byte that closes its field. It is most of what reading a text is, and a call of its own would cost a field a tenth more.
+#[inline]
 pub fn field_at(text: &[u8], at: usize, close: u8) -> Field
     ensures { result ≡ field_at text.now at close }
 {
@@ -174,15 +182,16 @@ pub fn figures_into(text: &[u8], from: usize, count: usize, out: &mut [i64], bas
     ensures { (result ≡ (figures_at text.now from count).next) × (out.new ≡ sets out.old base (figures_at text.now from count).values) }
 {
     let mut at = from;
-    for i in 0..count {
-        let f = field_at(text, at, close_of(count - 1 - i));
-        out[base + i] = f.value;
+    let end = base + count;
+    for i in base..end {
+        let f = field_at(text, at, close_of(end - 1 - i));
+        out[i] = f.value;
         at = f.next;
     }
     at
 }
 
-// A kind and `count` fields, written from `base` on.
+// A kind, which is a number of the ledger's words, and `count` fields, written from `base` on.
 fn kind_and_fields(
     text: &[u8],
     at: usize,
@@ -235,7 +244,7 @@ pub fn put_digits(out: &mut [u8], at: usize, n: u64) -> usize
     e + 1
 }
 
-// The same. Many numbers of a sheet have one digit: it is written without the recursion.
+// The same, and not the recursion itself, for speed: many numbers of a sheet have one digit, and it is written without a call.
 fn put_natural(out: &mut [u8], at: usize, n: u64) -> usize
     requires { at + 20 ≤ length out.old }
     ensures { (result ≡ at + length (natural n)) × (out.new ≡ sets out.old at (natural n)) }
@@ -269,7 +278,7 @@ pub fn put_word(out: &mut [u8], at: usize, word: &[u8]) -> usize
     end
 }
 
-// A natural number, and what closes its field.
+// A natural number, and what closes its field. It has no minus, so it is asked one place less than `put_field`, and a u64 is no i64.
 pub fn put_count(out: &mut [u8], at: usize, n: u64, close: u8) -> usize
     requires { at + 21 ≤ length out.old }
     ensures { (result ≡ at + length (field (pos n) close)) × (out.new ≡ sets out.old at (field (pos n) close)) }
