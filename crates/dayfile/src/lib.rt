@@ -131,7 +131,7 @@ pub fn figures_of(p: usize, letter: u8) -> usize
     }
 }
 
-// A call's letter, through a view at its place.
+// A call's letter, through a view at its place. It and `call_line` stay beside the view's methods: `day` calls them, and docs/CONTRACTS.md lists them.
 pub fn letter_there(text: &[u8], at: usize) -> u8
     ensures { result ≡ get_or text.now at 0 }
 {
