@@ -1,6 +1,6 @@
 -- Words for the contracts of functions that no caller outside uses: what they require, and what they give, as numbers and lists. No
 -- reader of the entry point's contract needs them.
-use Rattle.std.specs.Prelude.{◌≡◌, cond, List, ℕ, ◌≤◌, ltb, ℤ}
+use Rattle.std.specs.Prelude.{◌≡◌, cond, List, Option, Some, None, ℕ, ◌+◌, ◌≤◌, ltb, ℤ}
 use Rattle.places.specs.declared.Shape.{Shape}
 use Rattle.places.specs.Act.{most_accounts, most_products}
 use Rattle.lines.specs.Lines.{Line, Stand, line_start_of}
@@ -26,6 +26,14 @@ pub record AllPositioned (e : Stand Stated) (r : LineStart) (words : List ℤ) (
   pub place_is : r ≡ line_start_of e
   pub words_are : words ≡ e.held.words
   pub marks_are : marks ≡ e.held.marks
+
+-- a number of figures, or none where it is past the most; and back
+abbrev pub known : ℕ → Option ℕ
+known k = cond (ltb most_figures k) None (Some k)
+
+abbrev pub or_no_call : Option ℕ → ℕ
+or_no_call (Some k) = k
+or_no_call None = most_figures + 1
 
 -- how many figures a call's line gave
 unfoldable pub given_of : ℕ → ℕ → ℕ

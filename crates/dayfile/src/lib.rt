@@ -15,7 +15,7 @@ ghost use Rattle.places.specs.Act.{most_products};
 ghost use Rattle.lines.specs.Lines.{lost, line_start_of, first_lost};
 ghost use Rattle.dayfile.specs.CallLines.{most_figures, figures_of, gap, call_at, calls_from, column};
 ghost use Rattle.dayfile.specs.Day.{ended, start_of};
-ghost use Rattle.dayfile.specs.InsideDayfile.{given_of, Modest, Bodied};
+ghost use Rattle.dayfile.specs.InsideDayfile.{known, or_no_call, given_of, Modest, Bodied};
 ghost use Rattle.dayfile.specs.Table.{table_of, contents_of, ledger_shape};
 
 use lines::{LOST, LineStart};
@@ -25,10 +25,8 @@ use reader::Reader;
 // The figures of an account's line: its letter is the kind, and the other words before its positions follow.
 pub const ACCOUNT_FIGURES: usize = places::FIELDS - 1;
 
-// The most figures that a call has: a close of the most products. A byte that begins no call has one more.
+// The most figures that a call has: a close of the most products.
 pub const MOST_FIGURES: usize = places::MOST_PRODUCTS * 4;
-
-const NO_CALL: usize = MOST_FIGURES + 1;
 
 // A line of the table of contents: its count, and the next line.
 #[derive(Clone, Copy)]
@@ -114,20 +112,19 @@ pub fn read_contents(text: &[u8]) -> Contents
 
 // ---- calls
 
-// How many figures follow a call's letter; more than any call has behind a byte that begins no call. A letter stays a byte: an enum of the seven would
-// list them twice.
+// How many figures follow a call's letter; None behind a byte that begins no call. A letter stays a byte: an enum of the seven would list them twice.
 #[tactic(auto, unfolding(crate::specs::CallLines::figures_of))]
-pub fn figures_of(p: usize, letter: u8) -> usize
+pub fn figures_of(p: usize, letter: u8) -> Option<usize>
     requires { p ≤ most_products }
-    ensures { result ≡ figures_of p letter }
+    ensures { (or_no_call result ≡ figures_of p letter) × (result ≡ known (figures_of p letter)) }
 {
     match letter {
-        b'D' | b'W' => 2,
-        b'G' => 3,
-        b'B' | b'S' => 0,
-        b'T' => 5,
-        b'C' => p * 4,
-        _ => NO_CALL,
+        b'D' | b'W' => Some(2),
+        b'G' => Some(3),
+        b'B' | b'S' => Some(0),
+        b'T' => Some(5),
+        b'C' => Some(p * 4),
+        _ => None,
     }
 }
 
@@ -223,8 +220,7 @@ pub fn given_of(p: usize, letter: u8) -> usize
     requires { p ≤ most_products }
     ensures { (result ≡ given_of p letter) × (result ≤ most_figures) }
 {
-    let k = figures_of(p, letter);
-    if k > MOST_FIGURES { 0 } else { k }
+    figures_of(p, letter).unwrap_or(0)
 }
 
 // ---- a close's columns

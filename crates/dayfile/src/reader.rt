@@ -9,7 +9,7 @@ ghost use Rattle.dayfile.specs.CallLines.{most_figures, gap, call_at};
 ghost use Rattle.dayfile.specs.Sections.{product_figures, account_figures, holding_at};
 ghost use Rattle.dayfile.specs.Table.{count_line, past_header, products_count, accounts_count, positions_count, calls_count, past_end};
 
-use super::{ACCOUNT_FIGURES, Counted, Holding, MOST_FIGURES, figures_of};
+use super::{ACCOUNT_FIGURES, Counted, Holding, figures_of};
 use lines::LOST;
 
 // A line of the table that can not be read. It is a Counted and not a None, since `contents_of` has its 0, and reads the next line at its place.
@@ -170,10 +170,9 @@ impl<'a> Reader<'a> {
         requires { (p ≤ most_products) × (most_figures ≤ length figures.old) }
         ensures { (result ≡ (call_at self.entry.text.now p self.entry.at).next) × (figures.new ≡ sets figures.old 0 (call_at self.entry.text.now p self.entry.at).values) }
     {
-        let k = figures_of(p, self.letter());
-        if k > MOST_FIGURES {
+        let Some(k) = figures_of(p, self.letter()) else {
             return LOST;
-        }
+        };
         let from = self.moved(self.at + 1).past_gap(k);
         lines::figures_into(self.text, from, k, figures, 0)
     }

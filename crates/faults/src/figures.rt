@@ -3,7 +3,7 @@ ghost use Rattle.std.specs.Prelude.{◌≡◌, ◌≢◌, Some};
 ghost use Rattle.faults.specs.Fields.{fields};
 ghost use Rattle.faults.specs.declared.figures.Fault.TheVariants as Fault;
 
-use lines::{LOST, Numeral};
+use lines::LOST;
 use std::fmt;
 
 // What is wrong with the figures of a line: how many there are, or one that can not be read, counted from 1.
@@ -57,8 +57,8 @@ fn why_number(figure: &[u8]) -> &'static str {
 // Why a figure can not be read: its number, or what stands behind that.
 fn why(figure: &[u8]) -> &'static str {
     match lines::number_at(figure, 0) {
-        Numeral::Bad => why_number(figure),
-        Numeral::Value(_, _) => why_digits(b' '),
+        None => why_number(figure),
+        Some(_) => why_digits(b' '),
     }
 }
 

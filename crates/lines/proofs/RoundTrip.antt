@@ -14,9 +14,8 @@ use mir.Syntax.{w64}
 use mir.Val.{SFits}
 use Rattle.lines.specs.Lines.{field_at, closed_field, close_of, follow, figures_at}
 use Rattle.lines.specs.Print.{digits, natural, decimal, field, numbers_line}
-use Rattle.lines.specs.Text.{leading_digits, nat_from, number_at}
+use Rattle.lines.specs.Text.{leading_digits, nat_from, numeral, number_at}
 use Rattle.lines.specs.declared.Field.{Field}
-use Rattle.lines.specs.declared.Numeral.TheVariants.{Value}
 
 -- ---- digits are read as digits
 leading_one : (d : ℕ) (tail : List ℕ) → 48 ≤ d → d ≤ 57 → leading_digits (d ∷ tail) ≡ d ∷ leading_digits tail
@@ -92,13 +91,13 @@ module _ (text : List ℕ) (at n close : ℕ) (post : List ℕ) (low : close < 4
   lead_there : get_or text at 0 ≡ get_or (natural n ++ (close ∷ post)) 0 0
   lead_there = ap (λ (k : ℕ). get_or text k 0) (sym (add-zero at)) ∙ sym (get_or-drop at text 0 0) ∙ ap (λ (l : List ℕ). get_or l 0 0) there
 
-  close-good : (v : ℤ) → closed_field text close (Value v (at + length (natural n))) ≡ record { value = v; next = at + length (natural n) + 1 }
+  close-good : (v : ℤ) → closed_field text close (numeral v (at + length (natural n))) ≡ record { value = v; next = at + length (natural n) + 1 }
   close-good v = rw (lt-ltb (at + length (natural n)) (length text) inside, eq-eqb (get_or text (at + length (natural n)) 0) close close_there)
 
   lead_some : 1 ≤ n → 48 < get_or text at 0
   lead_some h = rw lead_there (lead_digits 20 n (close ∷ post) small h)
 
-  pub plain_some : 1 ≤ n → n < 2 ^ 63 → number_at text at ≡ Value (pos n) (at + length (natural n))
+  pub plain_some : 1 ≤ n → n < 2 ^ 63 → number_at text at ≡ numeral (pos n) (at + length (natural n))
   unfolding number_at
   plain_some h m =
       rw
@@ -114,7 +113,7 @@ module _ (text : List ℕ) (at n close : ℕ) (post : List ℕ) (low : close < 4
       longer e = omega (arith, some-digits 19 n)
 
   -- behind a minus
-  pub minus_some : (from : ℕ) → from + 1 ≡ at → get_or text from 0 ≡ 45 → 1 ≤ n → n ≤ 2 ^ 63 → number_at text from ≡ Value (neg_ℤ (pos n)) (at + length (natural n))
+  pub minus_some : (from : ℕ) → from + 1 ≡ at → get_or text from 0 ≡ 45 → 1 ≤ n → n ≤ 2 ^ 63 → number_at text from ≡ numeral (neg_ℤ (pos n)) (at + length (natural n))
   unfolding number_at
   minus_some from e s h m =
       rw
@@ -126,7 +125,7 @@ module _ (text : List ℕ) (at n close : ℕ) (post : List ℕ) (low : close < 4
       longer : at + length (natural n) ≡ at → ⊥
       longer e = omega (arith, some-digits 19 n)
 
-plain_zero : (text : List ℕ) (at close : ℕ) (post : List ℕ) → close < 48 → drop at text ≡ 48 ∷ close ∷ post → number_at text at ≡ Value (pos 0) (at + 1)
+plain_zero : (text : List ℕ) (at close : ℕ) (post : List ℕ) → close < 48 → drop at text ≡ 48 ∷ close ∷ post → number_at text at ≡ numeral (pos 0) (at + 1)
 unfolding number_at
 plain_zero text at close post low there =
     rw (lead_is, leading_is, ne_eqb (at + 1) at (λ e. longer e), eq-eqb (at + 1) (at + 1) refl)
@@ -140,9 +139,9 @@ plain_zero text at close post low there =
     longer : at + 1 ≡ at → ⊥
     longer e = omega arith
 
-plain_back : (text : List ℕ) (at n close : ℕ) (post : List ℕ) → close < 48 → n < 2 ^ 63 → drop at text ≡ natural n ++ (close ∷ post) → number_at text at ≡ Value (pos n) (at + length (natural n))
+plain_back : (text : List ℕ) (at n close : ℕ) (post : List ℕ) → close < 48 → n < 2 ^ 63 → drop at text ≡ natural n ++ (close ∷ post) → number_at text at ≡ numeral (pos n) (at + length (natural n))
 plain_back text at zero close post low small there =
-    plain_zero text at close post low (there ∙ ap (λ (l : List ℕ). l ++ (close ∷ post)) (zero-digits 19)) ∙ ap (λ (l : List ℕ). Value (pos 0) (at + length l)) (sym (zero-digits 19))
+    plain_zero text at close post low (there ∙ ap (λ (l : List ℕ). l ++ (close ∷ post)) (zero-digits 19)) ∙ ap (λ (l : List ℕ). numeral (pos 0) (at + length l)) (sym (zero-digits 19))
 plain_back text at (suc n) close post low small there = plain_some text at (suc n) close post low (omega arith) there (omega arith) small
 
 -- a printed number, read at its place

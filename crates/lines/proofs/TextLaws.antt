@@ -11,11 +11,10 @@ use lib.IntN.{pos, neg_ℤ}
 use lib.ListN.{length, take, drop, get_or, drop_of_length-le, length-take, length-drop, get_or-eq_default}
 use lib.Seq.{drop-cons, take_all}
 use native.Mathlib.Nat.{add-zero}
-use Rattle.std.proofs.Common.{◌⊎◌, inl, inr}
+use Rattle.std.proofs.Common.{None, ◌⊎◌, inl, inr}
 use Rattle.std.specs.List.{starts_with as prefix}
 use Rattle.lines.specs.InsideLines.{capped, digits_at}
-use Rattle.lines.specs.Text.{starts_with, word_at, leading_digits, nat_from, minus_of, plain_of, number_at}
-use Rattle.lines.specs.declared.Numeral.TheVariants.{Bad, Value}
+use Rattle.lines.specs.Text.{starts_with, word_at, leading_digits, nat_from, numeral, minus_of, plain_of, number_at}
 use Rattle.lines.specs.declared.LeadingDigits.{LeadingDigits}
 
 -- ---- words
@@ -149,15 +148,15 @@ module _ (text : List ℕ) (at i value : ℕ) (within : i < length text) (low : 
 -- ---- numbers
 minus_cap : (lead from end v : ℕ) → Capped v → minus_of lead from end (capped v) ≡ minus_of lead from end v
 minus_cap lead from end v (under e l) = ap (minus_of lead from end) e
-minus_cap lead from end v (over e l) = ap (minus_of lead from end) e ∙ ap (λ (t : Bool). cond (eqb end from) Bad (cond (eqb lead 48) Bad (cond t Bad (Value (neg_ℤ (pos v)) end)))) (sym (lt-ltb 9223372036854775808 v (omega arith)))
+minus_cap lead from end v (over e l) = ap (minus_of lead from end) e ∙ ap (λ (t : Bool). cond (eqb end from) None (cond (eqb lead 48) None (cond t None (numeral (neg_ℤ (pos v)) end)))) (sym (lt-ltb 9223372036854775808 v (omega arith)))
 
 plain_cap : (lead from end v : ℕ) → Capped v → plain_of lead from end (capped v) ≡ plain_of lead from end v
 plain_cap lead from end v (under e l) = ap (plain_of lead from end) e
 plain_cap lead from end v (over e l) =
     ap (plain_of lead from end) e ∙
-    ap (λ (t : Bool). cond (eqb end from) Bad (cond (eqb lead 48) (cond (eqb end (from + 1)) (Value (pos 0) end) Bad) (cond t Bad (Value (pos v) end)))) (sym (lt-ltb 9223372036854775807 v (omega arith)))
+    ap (λ (t : Bool). cond (eqb end from) None (cond (eqb lead 48) (cond (eqb end (from + 1)) (numeral (pos 0) end) None) (cond t None (numeral (pos v) end)))) (sym (lt-ltb 9223372036854775807 v (omega arith)))
 
-pub numeral_none : (text : List ℕ) (at : ℕ) → length text ≤ at → Bad ≡ number_at text at
+pub numeral_none : (text : List ℕ) (at : ℕ) → length text ≤ at → None ≡ number_at text at
 unfolding number_at
 numeral_none text at h = rw (get_or-eq_default text 0 h, drop_of_length-le text h, add-zero at, eq-eqb at at refl)
 

@@ -1,10 +1,9 @@
 -- How a text is read: fields, lines, and the first bad line (01: "one space between, every line closed by a line feed"; "a bad text prints
 -- only `BAD` and its first bad line, counted from 1"). A reader stands at a place of the text; a place is a number of bytes.
 -- What can not be read takes the reader to `lost`, a place past every text: nothing can be read there, so whoever is lost stays lost.
-use Rattle.std.specs.Prelude.{cond, List, [], ◌∷◌, ℕ, zero, suc, ◌+◌, ltb, eqb, ℤ, pos, length, get_or}
+use Rattle.std.specs.Prelude.{cond, List, [], ◌∷◌, Option, Some, None, ℕ, zero, suc, ◌+◌, ltb, eqb, ℤ, pos, length, get_or}
 use Rattle.lines.specs.Text.{word_at, number_at}
 use Rattle.lines.specs.declared.Numeral.{Numeral}
-use Rattle.lines.specs.declared.Numeral.TheVariants as N
 use Rattle.lines.specs.declared.Field.{Field}
 use Rattle.lines.specs.declared.LineStart.{LineStart}
 
@@ -30,10 +29,10 @@ abbrev pub no_field : Field
 no_field = record { value = pos 0; next = lost }
 
 -- a number that was read, and the byte that closes its field
-abbrev pub closed_field : List ℕ → ℕ → Numeral → Field
-closed_field text close N.Bad = no_field
-closed_field text close (N.Value v e) =
-    cond (ltb e (length text)) (cond (eqb (get_or text e 0) close) (record { value = v; next = e + 1 }) no_field) no_field
+abbrev pub closed_field : List ℕ → ℕ → Option Numeral → Field
+closed_field text close None = no_field
+closed_field text close (Some n) =
+    cond (ltb n.end (length text)) (cond (eqb (get_or text n.end 0) close) (record { value = n.value; next = n.end + 1 }) no_field) no_field
 
 -- the number at a place, closed by a byte; and where the next field starts
 unfoldable pub field_at : List ℕ → ℕ → ℕ → Field

@@ -1,8 +1,7 @@
 -- What stands at a place of a text: words and decimal numbers (01: "no plus sign, no leading zeros, no -0", "a number past signed 64 bits").
 -- A text is a list of bytes, and a place of it a number of bytes.
-use Rattle.std.specs.Prelude.{Bool, true, false, cond, List, [], ◌∷◌, ℕ, ◌+◌, ◌*◌, ◌-◌, ltb, eqb, pos, neg_ℤ, length, drop, get_or}
+use Rattle.std.specs.Prelude.{Bool, true, false, cond, List, [], ◌∷◌, Option, Some, None, ℕ, ◌+◌, ◌*◌, ◌-◌, ltb, eqb, ℤ, pos, neg_ℤ, length, drop, get_or}
 use Rattle.lines.specs.declared.Numeral.{Numeral}
-use Rattle.lines.specs.declared.Numeral.TheVariants as N
 
 -- ---- words
 -- whether s begins with w
@@ -36,25 +35,29 @@ abbrev pub nat_from : ℕ → List ℕ → ℕ
 nat_from v [] = v
 nat_from v (d ∷ ds) = nat_from (v * 10 + (d - zero_digit)) ds
 
--- What digits stand for, by their first one, where they start and end, and their value. The number, and where it ends; or Bad.
+-- a number that was read, and where it ends
+abbrev pub numeral : ℤ → ℕ → Option Numeral
+numeral v e = Some (record { value = v; end = e })
+
+-- What digits stand for, by their first one, where they start and end, and their value. The number, and where it ends; or None.
 -- After a minus: there is a digit, the first is no 0 (so neither -0 nor -07), and the value is at most 2 ^ 63
-abbrev pub minus_of : ℕ → ℕ → ℕ → ℕ → Numeral
+abbrev pub minus_of : ℕ → ℕ → ℕ → ℕ → Option Numeral
 minus_of lead from end value =
-    cond (eqb end from) N.Bad
-    (cond (eqb lead zero_digit) N.Bad
-    (cond (ltb 9223372036854775808 value) N.Bad
-    (N.Value (neg_ℤ (pos value)) end)))
+    cond (eqb end from) None
+    (cond (eqb lead zero_digit) None
+    (cond (ltb 9223372036854775808 value) None
+    (numeral (neg_ℤ (pos value)) end)))
 
 -- with no sign: there is a digit, the first is no 0 unless it is the only one, and the value is less than 2 ^ 63
-abbrev pub plain_of : ℕ → ℕ → ℕ → ℕ → Numeral
+abbrev pub plain_of : ℕ → ℕ → ℕ → ℕ → Option Numeral
 plain_of lead from end value =
-    cond (eqb end from) N.Bad
-    (cond (eqb lead zero_digit) (cond (eqb end (from + 1)) (N.Value (pos 0) end) N.Bad)
-    (cond (ltb 9223372036854775807 value) N.Bad
-    (N.Value (pos value) end)))
+    cond (eqb end from) None
+    (cond (eqb lead zero_digit) (cond (eqb end (from + 1)) (numeral (pos 0) end) None)
+    (cond (ltb 9223372036854775807 value) None
+    (numeral (pos value) end)))
 
 -- a decimal number at a place: a minus (45) or none, and digits. Any other byte, a plus too, is no digit, and so there is none
-unfoldable pub number_at : List ℕ → ℕ → Numeral
+unfoldable pub number_at : List ℕ → ℕ → Option Numeral
 number_at text at =
     cond (eqb (get_or text at 0) minus_sign)
     (minus_of (get_or text (at + 1) 0) (at + 1) (at + 1 + length (leading_digits (drop (at + 1) text))) (nat_from 0 (leading_digits (drop (at + 1) text))))

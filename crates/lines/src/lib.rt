@@ -25,9 +25,9 @@ pub struct LineStart {
 
 // A number that was read, and the place behind its last digit.
 #[derive(Clone, Copy)]
-pub enum Numeral {
-    Bad,
-    Value(i64, usize),
+pub struct Numeral {
+    pub value: i64,
+    pub end: usize,
 }
 
 // What a field holds, and where the next one starts, or LOST.
@@ -83,51 +83,53 @@ pub fn byte_at(text: &[u8], at: usize) -> u8
 
 // The number of a run of digits after a minus. It and `plain_of` are two, as in the definitions: the bound differs, and a 0 alone is a number without it.
 // Three tests and not one: with `||` they are joined without a branch, ten instructions more for every number below 0.
-fn minus_of(lead: u8, from: usize, d: LeadingDigits) -> Numeral
+fn minus_of(lead: u8, from: usize, d: LeadingDigits) -> Option<Numeral>
     ensures { result ≡ minus_of lead from d.end d.value }
 {
     if d.end == from {
-        return Numeral::Bad;
+        return None;
     }
     if lead == b'0' {
-        return Numeral::Bad;
+        return None;
     }
     if d.value > 9223372036854775808 {
-        return Numeral::Bad;
+        return None;
     }
-    if d.value == 9223372036854775808 {
-        return Numeral::Value(i64::MIN, d.end);
-    }
-    Numeral::Value(-(d.value as i64), d.end)
+    let value = if d.value == 9223372036854775808 {
+        i64::MIN
+    } else {
+        -(d.value as i64)
+    };
+    Some(Numeral { value, end: d.end })
 }
 
 // The number of a run of digits with no sign. A single digit, 0 too, is its own number. The run's length is asked before its leading digit: the
 // loop over the digits has just branched on the length, so that a processor foretells it; nothing foretells which single digits are 0.
-fn plain_of(lead: u8, from: usize, d: LeadingDigits) -> Numeral
+fn plain_of(lead: u8, from: usize, d: LeadingDigits) -> Option<Numeral>
     requires fact_1 { from < 18446744073709551615 }
     requires fact_2 { (d.end ≡ from + 1 → d.value ≡ lead - 48) }
     ensures { result ≡ plain_of lead from d.end d.value }
 {
-    if d.end == from {
-        return Numeral::Bad;
-    }
     if d.end == from + 1 {
-        return Numeral::Value(d.value as i64, d.end);
+        return Some(Numeral {
+            value: d.value as i64,
+            end: d.end,
+        });
     }
-    if lead == b'0' || d.value > 9223372036854775807 {
-        return Numeral::Bad;
+    if d.end == from || lead == b'0' {
+        return None;
     }
-    Numeral::Value(d.value as i64, d.end)
+    let Ok(value) = i64::try_from(d.value) else {
+        return None;
+    };
+    Some(Numeral { value, end: d.end })
 }
 
 // A decimal number at a place: no plus, no leading zero, no -0, and it fits 64 bits.
-pub fn number_at(text: &[u8], at: usize) -> Numeral
+pub fn number_at(text: &[u8], at: usize) -> Option<Numeral>
     ensures { result ≡ number_at text.now at }
 {
-    if text.len() <= at {
-        return Numeral::Bad;
-    }
-    let first = text[at];
+    let first = *text.get(at)?;
     if first == b'-' {
         let from = at + 1;
         let lead = byte_at(text, from);
@@ -157,13 +159,13 @@ const NO_FIELD: Field = Field {
 pub fn field_at(text: &[u8], at: usize, close: u8) -> Field
     ensures { result ≡ field_at text.now at close }
 {
-    let Numeral::Value(value, end) = number_at(text, at) else {
+    let Some(n) = number_at(text, at) else {
         return NO_FIELD;
     };
-    if end < text.len() && text[end] == close {
+    if n.end < text.len() && text[n.end] == close {
         return Field {
-            value,
-            next: end + 1,
+            value: n.value,
+            next: n.end + 1,
         };
     }
     NO_FIELD

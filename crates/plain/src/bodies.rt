@@ -42,13 +42,12 @@ fn say_account(page: &mut Page, line: &[u8], number: usize) -> fmt::Result {
 
 // A call: its letter, then its figures. A letter that has none stands alone.
 fn say_call(page: &mut Page, day: Day, line: &[u8], number: usize) -> fmt::Result {
-    let must = dayfile::figures_of(day.contents.products, lines::byte_at(line, 0));
-    if must > dayfile::MOST_FIGURES {
+    let Some(must) = dayfile::figures_of(day.contents.products, lines::byte_at(line, 0)) else {
         return write!(
             page,
             "line {number}: a call line starts with D, W, G, B, S, T or C"
         );
-    }
+    };
     match lines::byte_at(line, 1) {
         b'\n' => {
             let fault = Fault::Count { has: 0, must };
