@@ -11,7 +11,7 @@ use std::io::Read;
 use std::{fs, io};
 
 // Reads until the input ends or `text` is full; how many bytes came. A read may give less than was asked for, so that only one that gives
-// nothing ends it.
+// nothing ends it. By an index, since each read says how many bytes came and the rest is lent to the next.
 fn read_text(source: &mut impl Read, text: &mut [u8]) -> io::Result<usize>
     ensures { IfOk result (λ n. n ≤ length text.old) }
 {

@@ -192,7 +192,8 @@ fn longest() -> Option<Tally> {
     Some(tally)
 }
 
-// Reads until the input ends or `file` is full; how many bytes came.
+// Reads until the input ends or `file` is full; how many bytes came. By an index, since each read says how many bytes came and the rest is lent to
+// the next; the program `sheet` has the same, since no crate below both reads anything.
 fn read_file(source: &mut impl Read, file: &mut [u8]) -> io::Result<usize>
     ensures { IfOk result (λ n. n ≤ length file.old) }
 {
