@@ -21,6 +21,7 @@ ghost use Rattle.day.specs.Sheet.{reply_line, account_numbers, house_part, end_p
 use dayfile::Contents;
 use lines::{LONGEST, LOST};
 use places::Shape;
+use rules::Reply;
 
 // Room for every sheet.
 const ROOM: usize = 65536;
@@ -42,12 +43,12 @@ fn put_bad(out: &mut [u8], k: usize) -> usize
 }
 
 // A call's line: number and figure.
-fn put_reply(out: &mut [u8], at: usize, number: u64, figure: i64) -> usize
+fn put_reply(out: &mut [u8], at: usize, reply: Reply) -> usize
     requires { at + 44 ≤ length out.old }
-    ensures { (result ≡ at + length (reply_line (record { number = number; figure = figure }))) × (out.new ≡ sets out.old at (reply_line (record { number = number; figure = figure }))) }
+    ensures { (result ≡ at + length (reply_line reply)) × (out.new ≡ sets out.old at (reply_line reply)) }
 {
-    let e = lines::put_count(out, at, number, b' ');
-    lines::put_field(out, e, figure, b'\n')
+    let e = lines::put_count(out, at, reply.number, b' ');
+    lines::put_field(out, e, reply.figure, b'\n')
 }
 
 // An account's line: number, cash, dues, limit, shortfalls.
@@ -63,10 +64,16 @@ fn put_account(out: &mut [u8], at: usize, words: &[i64], s: Shape, a: usize) -> 
     let due1 = places::acct_word(words, s, a, places::FIRST_DUE + 1);
     let due2 = places::acct_word(words, s, a, places::FIRST_DUE + 2);
     let standing = calls::question(words, s, number);
-    let limit = standing.limit;
-    let first = standing.first;
-    let second = standing.second;
-    let line = [number, cash, due0, due1, due2, limit, first, second];
+    let line = [
+        number,
+        cash,
+        due0,
+        due1,
+        due2,
+        standing.limit,
+        standing.first,
+        standing.second,
+    ];
     lines::put_line(out, at, &line)
 }
 
@@ -88,12 +95,9 @@ fn put_end(out: &mut [u8], from: usize, words: &[i64], s: Shape) -> usize
     requires fact_2 { from + s.n * 176 + 28 ≤ length out.old }
     ensures { (result ≡ from + length (end_part the_ledger s words.now)) × (out.new ≡ sets out.old from (end_part the_ledger s words.now)) }
 {
-    let n = s.n;
     let mut at = from;
-    let mut a = 0;
-    while a < n {
+    for a in 0..s.n {
         at = put_account(out, at, words, s, a);
-        a += 1;
     }
     put_house(out, at, words, s)
 }
@@ -113,15 +117,14 @@ fn do_call(
     requires fact_3 { put + 44 ≤ length out.old }
     ensures { Turned the_ledger text.now s.p at words.old out.old put result words.new out.new }
 {
-    let p = s.p;
     let letter = dayfile::letter_there(text, at);
-    let k = dayfile::given_of(p, letter);
-    let next = dayfile::call_line(text, p, at, figures);
-    let r = calls::act(words, s, letter, &figures[..k]);
-    let number = r.number;
-    let figure = r.figure;
-    let e = put_reply(out, put, number, figure);
-    Turn { at: next, put: e }
+    let k = dayfile::given_of(s.p, letter);
+    let next = dayfile::call_line(text, s.p, at, figures);
+    let reply = Reply::from(calls::act(words, s, letter, &figures[..k]));
+    Turn {
+        at: next,
+        put: put_reply(out, put, reply),
+    }
 }
 
 // The second pass over the calls, and the rest of the sheet.
@@ -141,12 +144,10 @@ fn run_calls(
     let mut figures = [0i64; dayfile::MOST_FIGURES];
     let mut at = from;
     let mut put = start;
-    let mut left = count;
-    while left > 0 {
+    for _done in 0..count {
         let t = do_call(text, at, s, words, &mut figures, out, put);
         at = t.at;
         put = t.put;
-        left -= 1;
     }
     put_end(out, put, words, s)
 }
@@ -159,22 +160,18 @@ fn day_sheet(text: &[u8], c: Contents, words: &mut [i64], out: &mut [u8]) -> usi
     ensures { (result ≡ 0 + length (day_sheet the_ledger (bodies_of text.now c))) × (out.new ≡ sets out.old 0 (day_sheet the_ledger (bodies_of text.now c))) }
 {
     let b = dayfile::bodies_into(text, c, words);
-    let at = b.at;
-    let line = b.line;
-    let from = b.calls_at;
-    if at == LOST {
-        return put_bad(out, line);
+    if b.at == LOST {
+        return put_bad(out, b.line);
     }
-    if calls::is_sound(words) {
-        let s = Shape {
-            n: c.accounts,
-            p: c.products,
-        };
-        let k = c.calls;
-        let start = lines::put_word(out, 0, b"FXSHEET\n");
-        return run_calls(text, from, k, s, words, out, start);
+    if !calls::is_sound(words) {
+        return put_bad(out, 0);
     }
-    put_bad(out, 0)
+    let s = Shape {
+        n: c.accounts,
+        p: c.products,
+    };
+    let start = lines::put_word(out, 0, b"FXSHEET\n");
+    run_calls(text, b.calls_at, c.calls, s, words, out, start)
 }
 
 // The sheet, by way of words for the largest ledger.

@@ -6,8 +6,7 @@ use native.Mathlib.Omega.{arith}
 use lib.IntN.{ℤ}
 use lib.ListN.{length, take}
 use lib.Seq.{sets}
-use mir.Syntax.{w64}
-use mir.Facts.{to_z-of_z}
+use Rattle.rules.specs.Refusal.{answer_of}
 use Rattle.lines.proofs.WriteLaws.{take_figures}
 use Rattle.dayfile.specs.CallLines.{call_at, call_of}
 use Rattle.dayfile.specs.InsideDayfile.{given_of}
@@ -20,20 +19,18 @@ use Rattle.day.proofs.do_call.Goals as goal
 
 pub returns : goal.returns
 returns c =
-    let s = c in
-    let a = s.args in
-    let letter-is = c.letter_there-letter.ensures in
+    let a = c.args in
     let g = c.given_of-k in
     let l = c.call_line-next in
-    let t = c.act-r in
-    let k = c.put_reply-e in
+    let t = c.act in
+    let k = c.put_reply in
     let p = a.s.p in
-    let given_is = g.ensures.0 ∙ ap (given_of p) letter-is ∙ sym (call_length a.text.now p a.at) in
-    let few : g.result ≤ length a.figures.now = omega (arith, g.ensures.1, s.requires.fact_2) in
+    let given_is = g.ensures.0 ∙ ap (given_of p) c.letter_there-letter.ensures ∙ sym (call_length a.text.now p a.at) in
+    let few : g.result ≤ length a.figures.now = omega (arith, g.ensures.1, c.requires.fact_2) in
     let figures-are = ap (take g.result) l.ensures.1 ∙ take_figures a.figures.now (call_at a.text.now p a.at).values g.result (sym given_is) few in
-    let done-is : (t.result, t.new.words) ≡ done_at the_ledger a.text.now p a.at a.words.now = t.ensures ∙ (λ i. the_ledger.perform (call_of p (letter-is i) (figures-are i)) a.words.now) in
-    let figure-is = to_z-of_z {w = w64} {z = t.result.figure} (record { sfits = c.struct_told-1.given.1.0.1 }) in
-    let reply-is : record { number = t.result.number; figure = _ } ≡ (done_at the_ledger a.text.now p a.at a.words.now).0 = (λ i. record { number = t.result.number; figure = figure-is i }) ∙ ap (λ (d : Reply × List ℤ). d.0) done-is in
+    let done-is : (answer_of t.result, t.new.words) ≡ done_at the_ledger a.text.now p a.at a.words.now =
+    t.ensures ∙ (λ i. the_ledger.perform (call_of p (c.letter_there-letter.ensures i) (figures-are i)) a.words.now) in
+    let reply-is : c.from-reply.result ≡ (done_at the_ledger a.text.now p a.at a.words.now).0 = c.from-reply.ensures ∙ ap (λ (d : Reply × List ℤ). d.0) done-is in
     record {
       at_is = l.ensures.0;
       put_is = k.ensures.0 ∙ (λ i. a.put + length (reply_line (reply-is i)));

@@ -1,4 +1,6 @@
 -- The line's eight numbers are the words' and the question's; each is read back from its machine word. Assumes nothing.
+use mir.Facts.{to_z_pos}
+use Rattle.std.proofs.Common.{rules, of_z}
 use mathlib.Core.Path.{◌≡◌, ◌∙◌, ap}
 use mathlib.Core.List.{[], ◌∷◌}
 use Prim.Native.Nat.{◌+◌}
@@ -8,7 +10,6 @@ use lib.ListN.{length}
 use lib.Seq.{sets}
 use mir.Syntax.{w64}
 use mir.Val.{to_z}
-use mir.Facts.{to_z-of_z, to_z_pos}
 use Rattle.whole.specs.Signs.{came}
 use Rattle.lines.specs.Print.{numbers_line}
 use Rattle.calls.specs.Ledger.{the_ledger}
@@ -31,9 +32,12 @@ returns c =
     let e3 = came w3.result w3.type_inv w3.ensures in
     let e4 = came w4.result w4.type_inv w4.ensures in
     let q-is = q.ensures ∙ ap (λ (z : ℤ). the_ledger.question z a.words.now) e0 in
-    let e5 = to_z-of_z {w = w64} {z = q.result.limit} (record { sfits = c.struct_told-1.given.1.0.1 }) ∙ ap (λ (s : Standing). s.limit) q-is in
-    let e6 = to_z-of_z {w = w64} {z = q.result.first} (record { sfits = c.struct_told-2-1.given.1.1.0.1 }) ∙ ap (λ (s : Standing). s.first) q-is in
-    let e7 = to_z-of_z {w = w64} {z = q.result.second} (record { sfits = c.struct_told-3-1.given.1.1.1.0.1 }) ∙ ap (λ (s : Standing). s.second) q-is in (
+    let re5 : to_z w64 (of_z w64 q.result.limit) ≡ q.result.limit = search rules in
+    let e5 = re5 ∙ ap (λ (s : Standing). s.limit) q-is in
+    let re6 : to_z w64 (of_z w64 q.result.first) ≡ q.result.first = search rules in
+    let e6 = re6 ∙ ap (λ (s : Standing). s.first) q-is in
+    let re7 : to_z w64 (of_z w64 q.result.second) ≡ q.result.second = search rules in
+    let e7 = re7 ∙ ap (λ (s : Standing). s.second) q-is in (
       k.ensures.0 ∙ (λ i. a.at + length (numbers_line (e0 i ∷ e1 i ∷ e2 i ∷ e3 i ∷ e4 i ∷ e5 i ∷ e6 i ∷ e7 i ∷ []))),
       k.ensures.1 ∙ (λ i. sets a.out.now a.at (numbers_line (e0 i ∷ e1 i ∷ e2 i ∷ e3 i ∷ e4 i ∷ e5 i ∷ e6 i ∷ e7 i ∷ []))),
     )

@@ -18,9 +18,8 @@ loop-a-preserved c =
     let k = c.put_account-at in
     let numbers = account_numbers the_ledger a.s l.a a.words.now in
     let rest = accounts_part the_ledger a.s (l.a + 1) (a.s.n - (l.a + 1)) a.words.now ++ house_part a.s a.words.now in (
-      omega arith,
       omega (arith, k.ensures.0, k.auto.out, line-length numbers),
-      wrote_more l.invariant.2 (numbers_line numbers) rest (accounts-more the_ledger a.s l.a a.words.now (omega arith)) k.ensures.0 k.ensures.1,
+      wrote_more l.invariant.1 (numbers_line numbers) rest (accounts-more the_ledger a.s l.a a.words.now (omega arith)) k.ensures.0 k.ensures.1,
     )
 
 pub returns : goal.returns
@@ -29,4 +28,4 @@ returns c =
     let a = c.args in
     let k = c.put_house in
     let h = house_part a.s a.words.now in
-    wrote_done (wrote_more l.invariant.2 h [] (accounts-none the_ledger a.s l.a a.words.now (omega arith) ∙ sym (append-nil h)) k.ensures.0 k.ensures.1) refl
+    wrote_done (wrote_more l.invariant.1 h [] (accounts-none the_ledger a.s l.a a.words.now (omega arith) ∙ sym (append-nil h)) k.ensures.0 k.ensures.1) refl
