@@ -107,7 +107,13 @@ fn close_position(words: &mut [i64], s: Shape, a: usize, j: usize, terms: Terms)
     let book = places::held_word(words, s, a, j, places::BOOK);
     let due = places::acct_word(words, s, a, places::FIRST_DUE + terms.due);
     let margin = places::acct_word(words, s, a, places::MARGIN);
-    let difference = rules::products::difference_of(terms.kind, lots, book, terms.price, terms.quoted);
+    let difference = rules::products::difference_of(
+        terms.kind,
+        lots,
+        book,
+        terms.price,
+        terms.quoted,
+    );
     let charge = rules::products::margin_at(lots, terms.single) as i64;
     places::put_acct(words, s, a, places::FIRST_DUE + terms.due, due + difference);
     places::put_acct(words, s, a, places::MARGIN, margin + charge);

@@ -1,14 +1,13 @@
 -- `close_product` meets its contract: the accounts before a have had their turn, and a's own words are as they were (`turns_unseen`). Assumes nothing.
 use mathlib.Core.Path.{◌≡◌, refl, ap, ◌∙◌}
 use mathlib.Core.List.{List}
-use Prim.Native.Nat.{ℕ, ◌^◌, ◌<◌}
+use Prim.Native.Nat.{ℕ, ◌<◌}
 use native.Mathlib.Numerals.{add-one}
 use native.Mathlib.Omega.{arith}
 use lib.IntN.{ℤ, pos, nat_abs}
 use lib.ListN.{get_or}
 use mir.Syntax.{w64}
 use mir.Val.{to_z, of_z}
-use Rattle.std.specs.Int.Signed.{mag}
 use borrow.Author.Tests.{eq-eqb}
 use Rattle.whole.specs.Counting.{figure_at}
 use Rattle.rules.specs.ProductLaws.{Fair}

@@ -1,7 +1,6 @@
 -- `close_products` meets its contract: the first j products are walked, and what the next one relies on still holds (`named_then`, `column_then`).
 -- Assumes nothing.
 use mathlib.Core.Path.{◌≡◌}
-use Prim.Native.Nat.{◌-◌, ◌≤◌}
 use Rattle.places.specs.ByAccount.{by_account}
 use Rattle.daily.specs.Given.{of_lists}
 use Rattle.closing.specs.Walk.{walked}

@@ -2,7 +2,7 @@
 -- gross of the cash and the first d new dues, still in range. Assumes nothing.
 use mathlib.Core.List.{List}
 use mathlib.Core.Path.{◌≡◌, ap, subst, ◌∙◌}
-use Prim.Native.Nat.{ℕ, ◌^◌, ◌+◌, ◌≤◌, ◌<◌}
+use Prim.Native.Nat.{ℕ, ◌+◌, ◌≤◌, ◌<◌}
 use native.Mathlib.Numerals.{add-one}
 use native.Mathlib.Omega.{arith}
 use lib.IntN.{ℤ, pos, nat_abs}
@@ -14,13 +14,9 @@ use Rattle.whole.specs.CountingLaws.{total-part}
 use Rattle.std.proofs.Common.{rules}
 use Rattle.closing.specs.First.{first-found, first-none}
 use Rattle.whole.specs.Listed.{length-listed, get_or-listed}
-use Rattle.whole.specs.Signs.{back}
 use Rattle.rules.specs.Sizes.{most_gross}
 use Rattle.places.specs.declared.Shape.{Shape}
 use Rattle.places.specs.Act.{most_products}
-use mir.Syntax.{w64}
-use mir.Val.{to_z, of_z}
-use Rattle.std.specs.Int.Signed.{mag}
 use Rattle.places.specs.Place.{get, dues, cash}
 use Rattle.places.specs.ByAccount.{by_account}
 use Rattle.daily.specs.DailyFigures.{new_due, new_gross, over_gross}
@@ -39,8 +35,8 @@ got s P L W a r few h N n d v l e =
       due_in P s g a (r.row a h) L d few (next_in g a d (r.dues_in.at a h)),
     )
 
-long-new : (P L : List ℤ) (s : Shape) (W : List ℤ) (a : ℕ) (N : List ℤ) → N ≡ listed dues (new_due P L s (get by_account s W) a) → length N ≡ dues
-long-new P L s W a N n = ap length n ∙ length-listed dues (new_due P L s (get by_account s W) a)
+length-new_dues : (P L : List ℤ) (s : Shape) (W : List ℤ) (a : ℕ) (N : List ℤ) → N ≡ listed dues (new_due P L s (get by_account s W) a) → length N ≡ dues
+length-new_dues P L s W a N n = ap length n ∙ length-listed dues (new_due P L s (get by_account s W) a)
 
 -- the size of the gross with the due d more
 more-gross : (f : ℕ → ℕ) (cash d gross v : ℕ) → gross ≡ cash + total d f → v ≡ f d → gross + v ≡ cash + total (d + 1) f
@@ -62,7 +58,7 @@ pub loop-due-preserved : goal.loop-due-preserved
 loop-due-preserved c =
     let x = c.args in let s = x.s in let W = x.words.now in let P = x.figures.prices.now in let L = x.figures.lags.now in
     let a = c.search.a in let d = c.loop-due.due-index in let v = c.unsigned_abs-gross-in-loop-due in
-    let long = long-new P L s W a _ c.new_dues.ensures in
+    let long = length-new_dues P L s W a _ c.new_dues.ensures in
     let k = got s P L W a c.requires.ready c.requires.sized.few' (omega arith) c.new_dues.new.new c.new_dues.ensures d v.result (omega arith) (search rules) in (
       c.loop-due.invariant.0,
       more-gross (due-abs W s P L a) (nat_abs (get by_account s W (cash a))) d c.loop-due.gross v.result c.loop-due.invariant.1 k.0,
@@ -72,7 +68,7 @@ loop-due-preserved c =
 pub search-preserved : goal.search-preserved
 search-preserved c =
     let x = c.args in let s = x.s in let W = x.words.now in let P = x.figures.prices.now in let L = x.figures.lags.now in
-    let d = c.loop-due.due-index in let long = long-new P L s W c.search.a _ c.new_dues.ensures in
+    let d = c.loop-due.due-index in let long = length-new_dues P L s W c.search.a _ c.new_dues.ensures in
     let e : d ≡ dues = omega arith in
     let most : new_gross P L s (get by_account s W) c.search.a ≤ most_gross =
     subst (λ z. nat_abs (get by_account s W (cash c.search.a)) + total z (due-abs W s P L c.search.a) ≤ most_gross) e (omega (arith, c.loop-due.invariant.1)) in (
@@ -88,7 +84,7 @@ pub returns-then-over : goal.returns-then-over
 returns-then-over c =
     let x = c.args in let s = x.s in let W = x.words.now in let P = x.figures.prices.now in let L = x.figures.lags.now in let g = get by_account s W in
     let a = c.search.a in let d = c.loop-due.due-index in let v = c.unsigned_abs-gross-in-loop-due in
-    let long = long-new P L s W a _ c.new_dues.ensures in
+    let long = length-new_dues P L s W a _ c.new_dues.ensures in
     let k = got s P L W a c.requires.ready c.requires.sized.few' (omega arith) c.new_dues.new.new c.new_dues.ensures d v.result (omega arith) (search rules) in
     first-found s.n (over_gross P L s g) a (omega arith) c.search.invariant.1
     (lt-ltb most_gross (new_gross P L s g a) (over-then (due-abs W s P L a) (nat_abs (g (cash a))) d c.loop-due.gross v.result c.loop-due.invariant.1 k.0 (omega arith) c.if-over.true))

@@ -4,13 +4,12 @@ use mathlib.Core.Bool.{false}
 use mathlib.Core.List.{List}
 use mathlib.Core.Path.{◌≡◌}
 use Rattle.std.specs.Prelude.{None}
-use Prim.Native.Nat.{ℕ, ◌+◌, ◌-◌, ◌≤◌, ◌<◌}
+use Prim.Native.Nat.{ℕ, ◌+◌, ◌≤◌, ◌<◌}
 use lib.IntN.{ℤ, nat_abs}
-use lib.ListN.{length}
 use Rattle.whole.specs.Counting.{total}
 use Rattle.rules.specs.Sizes.{most_gross}
 use Rattle.places.specs.declared.Shape.{Shape}
-use Rattle.places.specs.Place.{get, dues, cash}
+use Rattle.places.specs.Place.{get, cash}
 use Rattle.places.specs.ByAccount.{by_account}
 use Rattle.daily.specs.DailyFigures.{new_due, over_gross}
 use Rattle.closing.proofs.first_over.Given as goal

@@ -40,5 +40,5 @@ loop-d-preserved c =
     let s = c.args.s in let a = c.args.a in let W = c.args.words.now in let d = c.loop-d.d in let X = c.loop-d.words in
     let w = c.next_due-due in let h = c.requires.a_lt_n in
     pass_more by_account s (later d) (λ g. move_puts g a) d (move-sees s a d h) W X c.put_acct.new.words c.loop-d.invariant
-        (moved-off s a d h (get by_account s W) (omega arith))
-        (c.put_acct.ensures ∙ ap (put by_account s X (due a d)) (came w.result w.type_inv w.ensures))
+    (moved-off s a d h (get by_account s W) (omega arith))
+    (c.put_acct.ensures ∙ ap (put by_account s X (due a d)) (came w.result w.type_inv w.ensures))

@@ -1,7 +1,6 @@
 -- `start_account` meets its contract: the first d dues have moved down, and the due after d is still as it was (`pass_more`); then the margin. Assumes nothing.
 use mathlib.Core.Path.{◌≡◌}
-use Prim.Native.Nat.{◌-◌, ◌≤◌}
-use Rattle.places.specs.Place.{get, puts, each, dues}
+use Rattle.places.specs.Place.{get, puts, each}
 use Rattle.places.specs.ByAccount.{by_account}
 use Rattle.closing.specs.Walk.{move_puts}
 use Rattle.closing.proofs.start_account.Given as goal

@@ -36,4 +36,4 @@ pub loop-a-preserved : goal.loop-a-preserved
 loop-a-preserved c =
     let s = c.args.s in let W = c.args.words.now in let a = c.loop-a.a in
     pass_more by_account s (account_sees a) start_puts a (start-sees s a (omega arith)) W c.loop-a.words c.start_account.new.words c.loop-a.invariant
-        (started_off s a (get by_account s W) (omega arith)) c.start_account.ensures
+    (started_off s a (get by_account s W) (omega arith)) c.start_account.ensures

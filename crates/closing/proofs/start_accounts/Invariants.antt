@@ -1,7 +1,6 @@
 -- `start_accounts` meets its contract: the words are those of the start with the starts of the accounts before a, none of which is a's own
 -- (`pass_more`). Assumes nothing.
 use mathlib.Core.Path.{◌≡◌}
-use Prim.Native.Nat.{◌-◌, ◌≤◌}
 use Rattle.places.specs.Place.{get, puts, each}
 use Rattle.places.specs.ByAccount.{by_account}
 use Rattle.closing.specs.Walk.{start_puts}
