@@ -2,6 +2,7 @@
 // at exit is compared. Prints of each kind how many cases there are, and how many came out otherwise.
 #![tactic(auto)]
 
+mod kinds; // the kinds of cases
 mod reading; // the lists and figures of a line
 mod sums; // the checksum of words
 mod ledgers; // the calls on a ledger
@@ -13,7 +14,9 @@ mod sheets; // the sheet of a text
 
 ghost use Rattle.std.specs.Prelude.{◌<◌, ◌≤◌, length, IfOk};
 
+use kinds::Kind;
 use lines::LONGEST;
+use reading::Case;
 use std::io;
 use std::io::Read;
 
@@ -29,104 +32,41 @@ fn line_end(text: &[u8], at: usize) -> usize
     requires { at < length text.now }
     ensures { (at < result) × (result ≤ length text.now) }
 {
-    let mut i = at;
-    while i < text.len() {
-        if text[i] == b'\n' {
-            return i + 1;
-        }
-        i += 1;
-    }
-    i
-}
-
-fn is_of(line: &[u8], kind: u8) -> bool {
-    lines::byte_at(line, 0) == kind
-}
-
-fn request_agrees(line: &[u8], kind: u8) -> bool {
-    if kind == b'P' || kind == b'R' {
-        return tellers::agrees(line, kind);
-    }
-    ledgers::agrees(line, kind)
+    text[at..]
+        .iter()
+        .position(|b| *b == b'\n')
+        .map_or(text.len(), |i| at + i + 1)
 }
 
 // Whether a case comes out as its line says. Places of a longer line would not be told from LOST.
-fn agrees(line: &[u8], kind: u8) -> bool {
+fn agrees(line: &[u8], kind: Kind) -> bool {
     if line.len() > LONGEST {
         return false;
     }
-    if kind == b'C' {
-        return closes::agrees(line);
+    let case = Case::of(line);
+    match kind {
+        Kind::Close => closes::agrees(case),
+        Kind::Sharing => losses::agrees(case),
+        Kind::MarginRate => windows::agrees(case),
+        Kind::TellersDeposit | Kind::TellersWithdrawal => tellers::agrees(case, kind),
+        Kind::Sheet => sheets::agrees(case),
+        _ => ledgers::agrees(case, kind),
     }
-    if kind == b'H' {
-        return losses::agrees(line);
-    }
-    if kind == b'X' {
-        return sheets::agrees(line);
-    }
-    if kind == b'M' {
-        return windows::agrees(line);
-    }
-    request_agrees(line, kind)
 }
 
-fn case_of(line: &[u8], kind: u8) -> u64
-    ensures { result ≤ 1 }
-{
-    if is_of(line, kind) { 1 } else { 0 }
-}
-
-fn wrong_of(line: &[u8], kind: u8) -> u64
-    ensures { result ≤ 1 }
-{
-    if !is_of(line, kind) {
-        return 0;
-    }
-    if agrees(line, kind) { 0 } else { 1 }
-}
-
-fn counted(text: &[u8], kind: u8) -> Count {
+fn counted(text: &[u8], kind: Kind) -> Count {
     let mut at = 0;
-    let mut cases: u64 = 0;
-    let mut wrong: u64 = 0;
+    let mut count = Count { cases: 0, wrong: 0 };
     while at < text.len() {
         let end = line_end(text, at);
-        cases += case_of(&text[at..end], kind);
-        wrong += wrong_of(&text[at..end], kind);
+        let line = &text[at..end];
+        if Kind::of(line) == Some(kind) {
+            count.cases += 1;
+            count.wrong += u64::from(!agrees(line, kind));
+        }
         at = end;
     }
-    Count { cases, wrong }
-}
-
-fn print_count(rt: &impl Print, n: u64, what: &[u8]) -> io::Result<()> {
-    rt.print(n)?;
-    rt.write_all(what)
-}
-
-fn print_kind(rt: &impl Print, text: &[u8], kind: u8, name: &[u8]) -> io::Result<()> {
-    let c = counted(text, kind);
-    rt.write_all(name)?;
-    print_count(rt, c.cases, b" cases, ")?;
-    print_count(rt, c.wrong, b" differences\n")
-}
-
-fn print_requests(rt: &impl Print, text: &[u8]) -> io::Result<()> {
-    print_kind(rt, text, b'D', b"deposit: ")?;
-    print_kind(rt, text, b'W', b"withdrawal: ")?;
-    print_kind(rt, text, b'G', b"guarantee: ")?;
-    print_kind(rt, text, b'Q', b"question: ")?;
-    print_kind(rt, text, b'T', b"trade: ")
-}
-
-fn print_rest(rt: &impl Print, text: &[u8]) -> io::Result<()> {
-    print_kind(rt, text, b'B', b"begin: ")?;
-    print_kind(rt, text, b'S', b"step: ")?;
-    print_kind(rt, text, b'C', b"close: ")?;
-    print_kind(rt, text, b'H', b"sharing: ")?;
-    print_kind(rt, text, b'M', b"margin rate: ")?;
-    print_kind(rt, text, b'P', b"teller's deposit: ")?;
-    print_kind(rt, text, b'R', b"teller's withdrawal: ")?;
-    print_kind(rt, text, b'X', b"sheet: ")
+    count
 }
 
 // Reads until the input ends or `text` is full; how many bytes came.
@@ -147,6 +87,9 @@ fn read_text(source: &mut impl Read, text: &mut [u8]) -> io::Result<usize>
 fn main(rt: HostRuntime) -> io::Result<()> {
     let mut text = [0u8; 196608];
     let size = read_text(&mut rt.stdin(), &mut text)?;
-    print_requests(&rt, &text[..size])?;
-    print_rest(&rt, &text[..size])
+    for kind in kinds::ALL {
+        let Count { cases, wrong } = counted(&text[..size], kind);
+        println!(rt; "{kind}: {cases} cases, {wrong} differences")?;
+    }
+    Ok(())
 }

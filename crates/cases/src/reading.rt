@@ -3,71 +3,48 @@ ghost use Rattle.std.specs.Prelude.{◌≤◌, length};
 
 use lines::LOST;
 
-// A list that was read: how many figures it has, and the place behind them, or LOST.
-#[derive(Drop)]
-pub struct List {
-    pub count: usize,
-    pub next: usize,
+// A line, and the place that it is read to, or LOST.
+#[derive(Clone, Copy)]
+pub struct Case<'a> {
+    pub line: &'a [u8],
+    pub at: usize,
 }
 
-fn put(out: &mut [i64], i: usize, v: i64) {
-    if i < out.len() {
-        out[i] = v;
+impl<'a> Case<'a> {
+    // Behind the letter of its kind.
+    pub fn of(line: &'a [u8]) -> Case<'a> {
+        Case { line, at: 2 }
     }
-}
 
-// `count` figures, each closed by a space; the place behind them.
-fn figures_at(line: &[u8], from: usize, count: usize, out: &mut [i64]) -> usize
-    requires { count ≤ length out.old }
-{
-    let mut at = from;
-    let mut i = 0;
-    while i < count {
-        let f = lines::field_at(line, at, b' ');
-        let v = f.value;
-        put(out, i, v);
-        at = f.next;
-        i += 1;
+    // A figure, closed by a space.
+    fn figure(&mut self) -> i64 {
+        let f = lines::field_at(self.line, self.at, b' ');
+        self.at = f.next;
+        f.value
     }
-    at
-}
 
-// A count and so many figures. A list that `out` has no room for is lost.
-pub fn list_at(line: &[u8], from: usize, out: &mut [i64]) -> List
-    ensures { result.count ≤ length out.old }
-{
-    let f = lines::field_at(line, from, b' ');
-    let count = whole::nat_abs(f.value) as usize;
-    if count > out.len() {
-        return List {
-            count: 0,
-            next: LOST,
-        };
+    // A count and so many figures, which `out` then begins with: how many they are. A list that `out` has no room for is lost.
+    pub fn list(&mut self, out: &mut [i64]) -> usize
+        ensures { result ≤ length out.old }
+    {
+        let count = self.figure().unsigned_abs() as usize;
+        if count > out.len() {
+            self.at = LOST;
+            return 0;
+        }
+        for x in &mut out[..count] {
+            *x = self.figure();
+        }
+        count
     }
-    let next = figures_at(line, f.next, count, out);
-    List { count, next }
-}
 
-// Whether a number of the file is n.
-pub fn is(x: i64, n: u64) -> bool {
-    if x < 0 {
-        return false;
+    // Whether the line ends with a number and these figures.
+    pub fn ends<const N: usize>(mut self, number: u64, figures: [i64; N]) -> bool {
+        let first = self.figure();
+        let mut wanted = [0; N];
+        let end = lines::figures_into(self.line, self.at, N, &mut wanted, 0);
+        end == self.line.len()
+            && u64::try_from(first).is_ok_and(|n| n == number)
+            && wanted == figures
     }
-    whole::nat_abs(x) == n
-}
-
-// Whether a line ends with number, figure and checksum, as they came out.
-pub fn ends(line: &[u8], from: usize, number: u64, figure: i64, sum: u64) -> bool {
-    let mut wanted = [0i64; 3];
-    let end = lines::figures_into(line, from, 3, &mut wanted, 0);
-    if end != line.len() {
-        return false;
-    }
-    if !is(wanted[0], number) {
-        return false;
-    }
-    if wanted[1] != figure {
-        return false;
-    }
-    is(wanted[2], sum)
 }

@@ -1,8 +1,10 @@
 // The teller's window: a deposit or a withdrawal on a single record of eight figures.
-use crate::{reading, sums};
+use crate::kinds::Kind;
+use crate::reading::Case;
+use crate::sums;
 use rules::{Account, Taken};
 
-fn record_sum(a: Account) -> u64 {
+fn record_sum(a: Account) -> i64 {
     let record = [
         a.kind,
         a.cash,
@@ -16,37 +18,32 @@ fn record_sum(a: Account) -> u64 {
     sums::checksum(&record)
 }
 
-fn account_of(record: &[i64; 8]) -> Account {
+fn account_of(record: [i64; 8]) -> Account {
+    let [kind, cash, guarantee, cap, margin, due0, due1, due2] = record;
     Account {
-        kind: record[0],
-        cash: record[1],
-        guarantee: record[2],
-        cap: record[3],
-        margin: record[4],
-        due0: record[5],
-        due1: record[6],
-        due2: record[7],
+        kind,
+        cash,
+        guarantee,
+        cap,
+        margin,
+        due0,
+        due1,
+        due2,
     }
 }
 
-fn call(kind: u8, account: Account, amount: i64) -> Taken {
-    if kind == b'P' {
-        return teller::deposit_by_value(account, amount);
+fn call(kind: Kind, account: Account, amount: i64) -> Taken {
+    match kind {
+        Kind::TellersDeposit => teller::deposit_by_value(account, amount),
+        _ => teller::withdraw_by_value(account, amount),
     }
-    teller::withdraw_by_value(account, amount)
 }
 
-fn record_agrees(line: &[u8], at: usize, kind: u8, account: Account, amount: i64) -> bool {
-    let t = call(kind, account, amount);
-    let after = t.account;
-    reading::ends(line, at, t.number, t.figure, record_sum(after))
-}
-
-pub fn agrees(line: &[u8], kind: u8) -> bool {
-    let mut amount = [0i64; 1];
-    let mut record = [0i64; 8];
-    let g = reading::list_at(line, 2, &mut amount);
-    let r = reading::list_at(line, g.next, &mut record);
-    let next = r.next;
-    record_agrees(line, next, kind, account_of(&record), amount[0])
+pub fn agrees(mut case: Case, kind: Kind) -> bool {
+    let mut amount = [0; 1];
+    let mut record = [0; 8];
+    case.list(&mut amount);
+    case.list(&mut record);
+    let taken = call(kind, account_of(record), amount[0]);
+    case.ends(taken.number, [taken.figure, record_sum(taken.account)])
 }
