@@ -1,88 +1,95 @@
 // A figure's line: its name, what came, `=`, and what the paper says; a call's answer is its number and its figure. The calls are made on records
 // of which nothing is known, so each tests first what its rule asks.
 use rules::{Account, Standing, Taken, accounts, calls};
-use std::io;
+use std::{fmt, io};
 
 // ---- printing
 
-pub fn text(rt: &impl Print, bytes: &[u8]) -> io::Result<()> {
-    rt.write_all(bytes)
+#[derive(Clone, Copy)]
+enum Said {
+    Figure(i64),
+    Answer(u64, i64),
 }
 
-pub fn number(rt: &impl Print, x: i64) -> io::Result<()> {
-    if x < 0 {
-        text(rt, b"-")?;
+#[derive(Clone, Copy)]
+pub struct Line<'a> {
+    name: &'a str,
+    came: Said,
+    expected: Said,
+}
+
+pub fn figure<'a>(name: &'a str, came: i64, expected: i64) -> Line<'a> {
+    Line {
+        name,
+        came: Said::Figure(came),
+        expected: Said::Figure(expected),
     }
-    rt.print(whole::nat_abs(x))
 }
 
-pub fn show(rt: &impl Print, name: &[u8], came: i64, expected: i64) -> io::Result<()> {
-    text(rt, name)?;
-    text(rt, b": ")?;
-    number(rt, came)?;
-    text(rt, b" = ")?;
-    number(rt, expected)?;
-    text(rt, b"\n")
+pub fn call<'a>(name: &'a str, came: Taken, refusal: u64, figure: i64) -> Line<'a> {
+    Line {
+        name,
+        came: Said::Answer(came.number, came.figure),
+        expected: Said::Answer(refusal, figure),
+    }
 }
 
-fn answer(rt: &impl Print, refusal: u64, figure: i64) -> io::Result<()> {
-    rt.print(refusal)?;
-    text(rt, b" ")?;
-    number(rt, figure)
+impl fmt::Display for Said {
+    fn fmt<W: fmt::Write>(&self, f: &mut fmt::Formatter<W>) -> fmt::Result {
+        match self {
+            Said::Figure(figure) => write!(f, "{figure}"),
+            Said::Answer(number, figure) => write!(f, "{number} {figure}"),
+        }
+    }
 }
 
-fn show_call(
-    rt: &impl Print,
-    name: &[u8],
-    came: Taken,
-    refusal: u64,
-    figure: i64,
-) -> io::Result<()> {
-    let n = came.number;
-    let f = came.figure;
-    text(rt, name)?;
-    text(rt, b": ")?;
-    answer(rt, n, f)?;
-    text(rt, b" = ")?;
-    answer(rt, refusal, figure)?;
-    text(rt, b"\n")
+impl<'a> fmt::Display for Line<'a> {
+    fn fmt<W: fmt::Write>(&self, f: &mut fmt::Formatter<W>) -> fmt::Result {
+        write!(f, "{}: {} = {}", self.name, self.came, self.expected)
+    }
+}
+
+pub fn show(rt: &impl Print, lines: &[Line]) -> io::Result<()> {
+    for line in lines {
+        println!(rt; "{line}")?;
+    }
+    Ok(())
 }
 
 // ---- accounts
 
-pub fn account(
-    kind: i64,
-    cash: i64,
-    guarantee: i64,
-    cap: i64,
-    margin: i64,
-    due0: i64,
-    due1: i64,
-    due2: i64,
-) -> Account {
+pub const EMPTY: Account = Account {
+    kind: 0,
+    cash: 0,
+    guarantee: 0,
+    cap: 0,
+    margin: 0,
+    due0: 0,
+    due1: 0,
+    due2: 0,
+};
+
+pub fn broker(cash: i64, margin: i64, due0: i64, due1: i64, due2: i64) -> Account {
     Account {
-        kind: kind,
-        cash: cash,
-        guarantee: guarantee,
-        cap: cap,
-        margin: margin,
-        due0: due0,
-        due1: due1,
-        due2: due2,
+        cash,
+        margin,
+        due0,
+        due1,
+        due2,
+        ..EMPTY
     }
 }
 
-pub fn broker(cash: i64, margin: i64, due0: i64, due1: i64, due2: i64) -> Account {
-    account(0, cash, 0, 0, margin, due0, due1, due2)
-}
-
 pub fn provider(cash: i64, margin: i64, due0: i64, due1: i64, due2: i64) -> Account {
-    account(1, cash, 0, 0, margin, due0, due1, due2)
+    Account {
+        kind: 1,
+        ..broker(cash, margin, due0, due1, due2)
+    }
 }
 
-// ---- calls on a record of which nothing is known, and their lines
+// ---- calls on a record of which nothing is known
 
-fn question(account: Account) -> Standing {
+pub fn question(account: Account) -> Standing {
     if accounts::account_ok(account) {
         return calls::standing_of(account);
     }
@@ -94,79 +101,15 @@ fn question(account: Account) -> Standing {
     }
 }
 
-pub fn limit(rt: &impl Print, name: &[u8], account: Account, expected: i64) -> io::Result<()> {
-    let standing = question(account);
-    let came = standing.limit;
-    show(rt, name, came, expected)
-}
-
-pub fn first(rt: &impl Print, name: &[u8], account: Account, expected: i64) -> io::Result<()> {
-    let standing = question(account);
-    let came = standing.first;
-    show(rt, name, came, expected)
-}
-
-pub fn second(rt: &impl Print, name: &[u8], account: Account, expected: i64) -> io::Result<()> {
-    let standing = question(account);
-    let came = standing.second;
-    show(rt, name, came, expected)
-}
-
-pub fn deposit(
-    rt: &impl Print,
-    name: &[u8],
-    account: Account,
-    x: i64,
-    refusal: u64,
-    figure: i64,
-) -> io::Result<()> {
-    show_call(
-        rt,
-        name,
-        teller::deposit_by_value(account, x),
-        refusal,
-        figure,
-    )
-}
-
-pub fn withdrawal(
-    rt: &impl Print,
-    name: &[u8],
-    account: Account,
-    x: i64,
-    refusal: u64,
-    figure: i64,
-) -> io::Result<()> {
-    show_call(
-        rt,
-        name,
-        teller::withdraw_by_value(account, x),
-        refusal,
-        figure,
-    )
-}
-
-fn guarantee(account: Account, value: i64, cap: i64) -> Taken {
+pub fn guarantee(account: Account, value: i64, cap: i64) -> Taken {
     if accounts::account_ok(account) {
         return calls::guaranteed(account, value, cap);
     }
     Taken {
         number: 1,
         figure: 0,
-        account: account,
+        account,
     }
-}
-
-pub fn guaranteed(
-    rt: &impl Print,
-    name: &[u8],
-    account: Account,
-    value: i64,
-    cap: i64,
-    refusal: u64,
-    figure: i64,
-) -> io::Result<()> {
-    show_call(rt, name, guarantee(account, value, cap), refusal, figure)
 }
 
 pub fn transfer(account: Account) -> Account {
@@ -176,7 +119,15 @@ pub fn transfer(account: Account) -> Account {
     account
 }
 
-pub fn unsound(rt: &impl Print, name: &[u8], account: Account) -> io::Result<()> {
-    deposit(rt, name, account, 1, 1, 0)?;
-    withdrawal(rt, name, account, 1, 1, 0)
+// A record that is not sound: a deposit and a withdrawal are refused.
+pub fn unsound(rt: &impl Print, records: &[(&str, Account)]) -> io::Result<()> {
+    for (name, account) in records {
+        let deposit = teller::deposit_by_value(*account, 1);
+        let withdrawal = teller::withdraw_by_value(*account, 1);
+        show(
+            rt,
+            &[call(name, deposit, 1, 0), call(name, withdrawal, 1, 0)],
+        )?;
+    }
+    Ok(())
 }
