@@ -1,5 +1,5 @@
 -- Two windows judged: the larger rate by one root, and the answer of the call by what they come to. Assumes nothing.
-use Rattle.std.specs.Prelude.{◌≡◌, refl, Bool, true, false, ◌&&◌, List, ℕ, ◌*◌, ◌-◌, ◌≤◌, ◌<◌, max, leb, ltb, eqb, ℤ, pos, nat_abs}
+use Rattle.std.specs.Prelude.{◌≡◌, refl, Result, Ok, Err, Bool, true, false, ◌&&◌, List, ℕ, ◌*◌, ◌-◌, ◌≤◌, ◌<◌, max, leb, ltb, eqb, ℤ, pos, nat_abs}
 use Rattle.std.proofs.Common.{sym, ◌∙◌, ⊎_elim, arith, leb-true, leb-false, le-leb, ltb-true, ltb-false, ne_eqb}
 use Rattle.std.proofs.Math.Path.{ap}
 use Rattle.std.proofs.Math.Bool.{cond}
@@ -7,11 +7,13 @@ use Rattle.std.proofs.Math.Nat.{le-max_left, le-max_right, max-le}
 use Rattle.std.proofs.Math.ListN.{length}
 use Rattle.std.specs.Borrow.{Bor}
 use Rattle.std.proofs.lemmas.Bool.{lt-leb}
-use Rattle.whole.specs.Tests.{both, clash, none, true_or_false}
-use Rattle.rates.specs.MarginRate.{length_ok, figures_ok, refusal, window_rate, governs, part_of, empty_of, rated, rated_in_c}
+use Rattle.whole.specs.Tests.{both, clash, true_or_false}
+use Rattle.rates.specs.MarginRate.{length_ok, figures_ok, refusal, window_rate, governs, Part, part_of, empty_of, rated, rated_in_c}
 use Rattle.rates.specs.SumsLaws.{Accepted, accepted}
 use Rattle.rates.specs.RateLaws.{square_of, square_of-some, root_some, rate_at-most, rate_most, rate_above}
 use Rattle.rates.specs.declared.Judged.{Judged}
+use Rattle.rates.specs.declared.Refusal.{Refusal}
+use Rattle.rates.specs.declared.Refusal.TheVariants.{Lists, OutOfRange}
 
 max-left : (a b : ℕ) → b ≤ a → max a b ≡ a
 max-left a b h = omega arith
@@ -60,54 +62,19 @@ module _ (first second : List ℤ) (a : Accepted first) (b : Accepted second) (r
       (λ e. second-governs (ltb-false _ _ e) ∙ sym e)
       (true_or_false (ltb ((r - 1) * (r - 1)) (square_of first)))
 
--- ---- what two windows come to: the number, the larger rate, and whether the 8-week window governs
+-- ---- what two windows come to, as the call answers it: the number, the rate and the part handed back
 
-abbrev pub larger : List ℤ → List ℤ → Judged
-larger weeks8 weeks104 =
-    record { number = 0; rate = pos (max (window_rate weeks8) (window_rate weeks104)); eight = leb (window_rate weeks104) (window_rate weeks8) }
+abbrev pub number_of : Refusal → ℕ
+number_of Lists = 2
+number_of OutOfRange = 8
 
-abbrev pub refused : ℕ → Judged
-refused k = record { number = k; rate = pos 0; eight = false }
-
-unfoldable pub judged : List ℤ → List ℤ → Judged
-judged weeks8 weeks104 = cond (eqb (refusal weeks8 weeks104) 0) (larger weeks8 weeks104) (refused (refusal weeks8 weeks104))
-
--- ---- the refusals, in their order
-
-pub short-first : (weeks8 weeks104 : List ℤ) → length_ok weeks8 ≡ false → judged weeks8 weeks104 ≡ refused 2
-unfolding judged refusal
-short-first weeks8 weeks104 h = rw h
-
-pub short-second : (weeks8 weeks104 : List ℤ) → length_ok weeks104 ≡ false → judged weeks8 weeks104 ≡ refused 2
-unfolding judged refusal
-short-second weeks8 weeks104 h = rw (none (length_ok weeks8) (length_ok weeks104) h)
-
-pub out_first : (weeks8 weeks104 : List ℤ) → length_ok weeks8 ≡ true → length_ok weeks104 ≡ true → figures_ok weeks8 ≡ false
-    → judged weeks8 weeks104 ≡ refused 8
-unfolding judged refusal
-out_first weeks8 weeks104 h i j = rw (h, i, j)
-
-pub out_second : (weeks8 weeks104 : List ℤ) → length_ok weeks8 ≡ true → length_ok weeks104 ≡ true → figures_ok weeks104 ≡ false
-    → judged weeks8 weeks104 ≡ refused 8
-unfolding judged refusal
-out_second weeks8 weeks104 h i j = rw (h, i, none (figures_ok weeks8) (figures_ok weeks104) j)
-
-pub taken : (weeks8 weeks104 : List ℤ) → length_ok weeks8 ≡ true → length_ok weeks104 ≡ true → figures_ok weeks8 ≡ true → figures_ok weeks104 ≡ true
-    → judged weeks8 weeks104 ≡ larger weeks8 weeks104
-unfolding judged refusal
-taken weeks8 weeks104 h i j k = rw (h, i, j, k)
+abbrev pub answer : Result Judged Refusal → Bor (List ℤ) → ℕ × ℤ × Part
+answer (Ok judged) weeks8 = (0, judged.rate, part_of judged.figures)
+answer (Err refusal) weeks8 = (number_of refusal, pos 0, empty_of weeks8)
 
 -- ---- the answer of the call by what the windows come to
 
 module _ (weeks8 weeks104 : Bor (List ℤ)) where
-  judged-taken : eqb (refusal weeks8.now weeks104.now) 0 ≡ true → judged weeks8.now weeks104.now ≡ larger weeks8.now weeks104.now
-  unfolding judged
-  judged-taken e = rw e
-
-  judged-refused : eqb (refusal weeks8.now weeks104.now) 0 ≡ false → judged weeks8.now weeks104.now ≡ refused (refusal weeks8.now weeks104.now)
-  unfolding judged
-  judged-refused e = rw e
-
   pub rated-taken : eqb (refusal weeks8.now weeks104.now) 0 ≡ true
       → rated weeks8 weeks104 ≡ (0, pos (window_rate (governs weeks8 weeks104).now), part_of (governs weeks8 weeks104))
   unfolding rated
@@ -132,35 +99,6 @@ module _ (weeks8 weeks104 : Bor (List ℤ)) where
       (λ e. ap (λ z. window_rate z.now) (governs-eight e) ∙ sym (max-left _ _ (leb-true _ _ e)))
       (λ e. ap (λ z. window_rate z.now) (governs-other e) ∙ sym (max_right _ _ (leb-false _ _ e)))
       (true_or_false (leb (window_rate weeks104.now) (window_rate weeks8.now)))
-
-  answer-of : (g : Bor (List ℤ)) → eqb (refusal weeks8.now weeks104.now) 0 ≡ true → governs weeks8 weeks104 ≡ g
-      → (0, pos (max (window_rate weeks8.now) (window_rate weeks104.now)), part_of g) ≡ rated weeks8 weeks104
-  answer-of g e q = (λ i. (0, pos (sym larger_rate i), part_of (sym q i))) ∙ sym (rated-taken e)
-
-  module _ (j : Judged) (is : j ≡ judged weeks8.now weeks104.now) where
-    pub rated-refused : eqb j.number 0 ≡ false → (j.number, j.rate, empty_of weeks8) ≡ rated weeks8 weeks104
-    rated-refused h =
-        ⊎_elim
-        (λ e. clash (ap (λ z. eqb z.number 0) (is ∙ judged-taken e)) h)
-        (λ e. ap (λ z. (z.number, z.rate, empty_of weeks8)) (is ∙ judged-refused e) ∙ sym (rated-not e))
-        (true_or_false (eqb (refusal weeks8.now weeks104.now) 0))
-
-    not-refused : eqb j.number 0 ≡ true → eqb (refusal weeks8.now weeks104.now) 0 ≡ true
-    not-refused h =
-        ⊎_elim
-        (λ e. e)
-        (λ e. clash (sym (ap (λ z. eqb z.number 0) (is ∙ judged-refused e)) ∙ h) e)
-        (true_or_false (eqb (refusal weeks8.now weeks104.now) 0))
-
-    pub rated-eight : eqb j.number 0 ≡ true → j.eight ≡ true → (j.number, j.rate, part_of weeks8) ≡ rated weeks8 weeks104
-    rated-eight h i =
-        let e = is ∙ judged-taken (not-refused h) in
-        ap (λ z. (z.number, z.rate, part_of weeks8)) e ∙ answer-of weeks8 (not-refused h) (governs-eight (sym (ap (λ z. z.eight) e) ∙ i))
-
-    pub rated-other : eqb j.number 0 ≡ true → j.eight ≡ false → (j.number, j.rate, part_of weeks104) ≡ rated weeks8 weeks104
-    rated-other h i =
-        let e = is ∙ judged-taken (not-refused h) in
-        ap (λ z. (z.number, z.rate, part_of weeks104)) e ∙ answer-of weeks104 (not-refused h) (governs-other (sym (ap (λ z. z.eight) e) ∙ i))
 
 -- ---- the answer for C, of a list p that is handed back with the number n and the figure f
 

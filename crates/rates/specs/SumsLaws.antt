@@ -1,11 +1,12 @@
 -- A window that is accepted, and what one pass over it leaves: the figures added up and their squares, small enough for a word at every turn. Words for contracts
 -- behind the call. Assumes nothing.
-use Rattle.std.specs.Prelude.{◌≡◌, Bool, true, false, cond, List, ℕ, ◌*◌, ◌≤◌, ◌<◌, leb, ℤ, pos, nat_abs, ◌+ℤ◌, ◌-ℤ◌, ◌*ℤ◌, length, ◌≤ℤ◌}
-use Rattle.std.proofs.Common.{sym, ap, ◌∙◌, ⊎_elim, arith, SFits, to_z, of_z, leb-true}
+use Rattle.std.specs.Prelude.{◌≡◌, ◌+◌, Option, Some, None, Bool, true, false, cond, List, ℕ, ◌*◌, ◌≤◌, ◌<◌, leb, ℤ, pos, nat_abs, ◌+ℤ◌, ◌-ℤ◌, ◌*ℤ◌, length, ◌≤ℤ◌}
+use Rattle.std.proofs.Common.{sym, subst, add-one, ⊎_elim, arith, SFits, to_z, of_z, leb-true}
 use Rattle.std.specs.Int.{w64}
+use Rattle.std.proofs.lemmas.Option.{cond_some, none-some}
 use Rattle.whole.specs.Number.{within}
 use Rattle.whole.specs.Counting.{all, sum, figure_at}
-use Rattle.whole.specs.CountingLaws.{all-at, all-is, sum_abs}
+use Rattle.whole.specs.CountingLaws.{all-at, all-is, all-fails, all_more, sum_abs}
 use Rattle.whole.specs.Reps.{prod}
 use Rattle.whole.specs.Tests.{both, clash, true_or_false, is_false, within_true}
 use Rattle.whole.specs.Whole.{whole, facts, by}
@@ -31,42 +32,54 @@ accepted window h i =
     let b = both (leb 2 (length window)) (leb (length window) most_count) h in
     record { two = leb-true 2 (length window) b.0; few = leb-true (length window) most_count b.1; in-range = i }
 
--- ---- what a pass leaves of the first n figures of a window, and of all
-
-abbrev pub out_of_range : Sums
-out_of_range = record { ok = false; sum = pos 0; squares = pos 0 }
+-- ---- what a pass leaves of the first n figures of a window, and of all; nothing once a figure is out of range
 
 abbrev pub added_to : List ℤ → ℕ → Sums
-added_to window n = record { ok = true; sum = sum n (figure_at window); squares = sum n (square_at window) }
+added_to window n = record { sum = sum n (figure_at window); squares = sum n (square_at window) }
 
-unfoldable pub sums_to : List ℤ → ℕ → Sums
-sums_to window n = cond (all n (in_range window)) (added_to window n) out_of_range
+unfoldable pub sums_to : List ℤ → ℕ → Option Sums
+sums_to window n = cond (all n (in_range window)) (Some (added_to window n)) None
 
-abbrev pub sums_of : List ℤ → Sums
+abbrev pub sums_of : List ℤ → Option Sums
 sums_of window = sums_to window (length window)
 
-pub to_in : (window : List ℤ) (n : ℕ) → all n (in_range window) ≡ true → sums_to window n ≡ added_to window n
+pub to_in : (window : List ℤ) (n : ℕ) → all n (in_range window) ≡ true → sums_to window n ≡ Some (added_to window n)
 unfolding sums_to
 to_in window n e = rw e
 
-pub to_out : (window : List ℤ) (n : ℕ) → all n (in_range window) ≡ false → sums_to window n ≡ out_of_range
+-- sums that are left are those of figures in range
+pub left : (window : List ℤ) (n : ℕ) (s : Sums) → Some s ≡ sums_to window n → (all n (in_range window) ≡ true) × (added_to window n ≡ s)
 unfolding sums_to
-to_out window n e = rw e
+left window n s e = cond_some (all n (in_range window)) (added_to window n) s (sym e)
 
-pub sums_ok : (window : List ℤ) (n : ℕ) → (sums_to window n).ok ≡ all n (in_range window)
-sums_ok window n = ⊎_elim
-    (λ e. ap (λ s. s.ok) (to_in window n e) ∙ sym e)
-    (λ e. ap (λ s. s.ok) (to_out window n e) ∙ sym e)
+-- a figure out of range ends them
+pub out : (window : List ℤ) (n i : ℕ) → i < n → in_range window i ≡ false → sums_to window n ≡ None
+unfolding sums_to
+out window n i b e = rw (all-fails n (in_range window) i b e)
+
+-- what one figure more leaves
+abbrev pub next : Sums → ℤ → Option Sums
+next s x = cond (within most_size x) (Some (record { sum = s.sum +ℤ x; squares = s.squares +ℤ x *ℤ x })) None
+
+pub next_is : (window : List ℤ) (n : ℕ) (s : Sums) → Some s ≡ sums_to window n → next s (figure_at window n) ≡ sums_to window (n + 1)
+next_is window n s e = ⊎_elim more none (true_or_false (in_range window n))
+  where
+    more : in_range window n ≡ true → next s (figure_at window n) ≡ sums_to window (n + 1)
+    more t =
+        let h = left window n s e in
+        rw (t, ← h.1, add-one) (sym (rw add-one at (to_in window (n + 1) (all_more n (in_range window) h.0 t))))
+
+    none : in_range window n ≡ false → next s (figure_at window n) ≡ sums_to window (n + 1)
+    none t = rw t (sym (out window (n + 1) n (omega arith) t))
+
+-- where none are left of the first figures, none are left of all
+pub ended : (window : List ℤ) (n m : ℕ) → n ≤ m → sums_to window n ≡ None → sums_to window m ≡ None
+unfolding sums_to
+ended window n m h e =
+    ⊎_elim
+    (λ t. absurd (none-some (added_to window n) (sym (rw t at e))))
+    (λ o. rw (is_false (all m (in_range window)) (λ t. clash (all-is n (in_range window) (λ i b. all-at m (in_range window) t i (omega arith))) o)))
     (true_or_false (all n (in_range window)))
-
--- once out of range, always
-all_out : (n m : ℕ) (f : ℕ → Bool) → n ≤ m → all n f ≡ false → all m f ≡ false
-all_out n m f h e = is_false (all m f) (λ t. clash (all-is n f (λ i b. all-at m f t i (omega arith))) e)
-
-pub stays_out : (window : List ℤ) (n m : ℕ) → n ≤ m → (sums_to window n).ok ≡ false → sums_to window n ≡ sums_to window m
-stays_out window n m h e =
-    let o : all n (in_range window) ≡ false = sym (sums_ok window n) ∙ e in
-    to_out window n o ∙ sym (to_out window m (all_out n m (in_range window) h o))
 
 -- ---- sizes, of the first n figures where these are in range: a word has each sum, and takes one figure more
 
@@ -105,6 +118,12 @@ module _ (window : List ℤ) (n : ℕ) (few : n ≤ most_count) (before : all n 
     pub squares_fit : SFits w64 (sum n (square_at window) +ℤ square_at window n)
     squares_fit = let h = squares_small in let j = next_in in by (search whole depth 20) (omega (facts, prod (figure_at window n) (figure_at window n) j j))
 
+-- so a word has the sums that are left
+pub left_small : (window : List ℤ) (n : ℕ) (s : Sums) → n ≤ most_count → Some s ≡ sums_to window n → (nat_abs s.sum ≤ 10400000) × (nat_abs s.squares ≤ 208000000000)
+left_small window n s few e =
+    let h = left window n s e in
+    (subst (λ (s : Sums). nat_abs s.sum ≤ 10400000) h.1 (sum-small window n few h.0), subst (λ (s : Sums). nat_abs s.squares ≤ 208000000000) h.1 (squares_small window n few h.0))
+
 -- ---- the sums of an accepted window of m figures
 
 pub record Summed (m : ℕ) (sum squares : ℤ) : Type 0 where
@@ -115,7 +134,7 @@ pub record Summed (m : ℕ) (sum squares : ℤ) : Type 0 where
   pub natural : pos 0 ≤ℤ ((pos m *ℤ squares) -ℤ (sum *ℤ sum))
 
 module _ (window : List ℤ) (a : Accepted window) where
-  pub sums_accepted : sums_of window ≡ added_to window (length window)
+  pub sums_accepted : sums_of window ≡ Some (added_to window (length window))
   sums_accepted = to_in window (length window) a.in-range
 
   pub squares-of : nat_abs (squares_of window) ≤ length window * 400000000

@@ -20,4 +20,4 @@ worked c =
     by (search whole depth 20) (omega (facts, p, q))
 
 pub returns : goal.returns
-returns c = c.up.ensures ∙ ap nat_abs (worked (goal.at.returns c).Start)
+returns c = c.unsigned_abs.ensures.value ∙ ap nat_abs (worked (goal.at.returns c).Start)

@@ -1,12 +1,7 @@
 -- `sums_of` meets its contract: the sums of the figures passed, four more a turn. Assumes nothing.
-use mathlib.Core.Path.{◌≡◌}
-use Prim.Native.Nat.{◌-◌, ◌≤◌}
-use lib.ListN.{length}
+use Rattle.std.proofs.Common.{◌≡◌, ◌*◌, Some}
 use Rattle.rates.specs.SumsLaws.{sums_to}
 use Rattle.rates.proofs.windows.sums_of.Given as goal
 
-abbrev pub invariant-loop-i : goal.invariant-loop-i
-invariant-loop-i l = (l.i ≤ length l.window) × (l.sums ≡ sums_to l.window l.i)
-
-abbrev pub decreases-loop-i : goal.decreases-loop-i
-decreases-loop-i l = length l.window - l.i
+abbrev pub invariant-loop-four : goal.invariant-loop-four
+invariant-loop-four l = Some l.sums ≡ sums_to l.window (l.four-index * 4)
