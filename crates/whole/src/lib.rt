@@ -1,7 +1,7 @@
-// Signed whole numbers: tests of range, size, sums and differences, the two ways of rounding. Every contract is exact.
+// Signed whole numbers: tests of range in the words of the definitions, and rounding down. Every contract is exact.
 #![tactic(auto)]
 
-ghost use Rattle.std.specs.Prelude.{◌≡◌, ◌*◌, ◌%◌, ◌≤◌, ◌<◌, ◌^◌, cond, pos, nat_abs, ◌≤ℤ◌};
+ghost use Rattle.std.specs.Prelude.{◌≡◌, ◌*◌, ◌%◌, ◌≤◌, ◌<◌, ◌^◌, cond, nat_abs};
 ghost use Rattle.whole.specs.Number as N;
 
 // Whether x lies between lo and hi.
@@ -11,21 +11,6 @@ pub fn between(x: i64, lo: i64, hi: i64) -> bool
     lo <= x && x <= hi
 }
 
-// x, which is not below 0.
-pub fn up(x: i64) -> u64
-    requires { pos 0 ≤ℤ x }
-    ensures { result ≡ nat_abs x }
-{
-    x as u64
-}
-
-// |x|, of the least number too, whose size no i64 holds.
-pub fn nat_abs(x: i64) -> u64
-    ensures { result ≡ nat_abs x }
-{
-    if x < 0 { up(0 - (x + 1)) + 1 } else { up(x) }
-}
-
 // Whether x is at most `most` in size: two comparisons, and no size is worked out.
 pub fn within(x: i64, most: u64) -> bool
     requires { most < 2 ^ 63 }
@@ -33,16 +18,6 @@ pub fn within(x: i64, most: u64) -> bool
 {
     let top = most as i64;
     between(x, 0 - top, top)
-}
-
-// Whether x is the number of one of n things, counted from 0.
-pub fn is_one_of(x: i64, n: usize) -> bool
-    ensures { result ≡ N.is_one_of n x }
-{
-    if x < 0 {
-        return false;
-    }
-    nat_abs(x) < n as u64
 }
 
 // Which of n things, counted from 0, the number x names.
