@@ -15,8 +15,8 @@ use Rattle.soundness.specs.Perform.{refuse, refuse_question}
 use Rattle.rules.specs.AccountCalls.{Taken, taken, outcome}
 use Rattle.rules.specs.Refusal.{number_of, answer_of}
 use Rattle.rules.specs.declared.refusal.Refusal.{Refusal}
-use Rattle.rules.specs.declared.refusal.Refusal.TheVariants.{Unsound, Lists, NoSuchAccount, NoSuchProduct, Amount, WrongKind, WrongPhase, OutOfRange, PositionTooLarge, GrossTooLarge, AboveLimit, AccountTooLarge, HouseTooLarge}
 use Rattle.rules.specs.declared.Accepted.{Accepted}
+use Rattle.rules.proofs.RefusalLaws.{number-some}
 use Rattle.rules.specs.declared.Reply.{Reply}
 use Rattle.acts.specs.Requests.{at_account, when_taken, question_act, question_rule}
 use Rattle.rules.specs.declared.Account.{Account}
@@ -58,22 +58,6 @@ none-given false k e = refl
 -- where nothing was found, none of n is named
 pub unnamed : (n : ℕ) (z w : ℤ) {o : Option ℕ} → w ≡ z → o ≡ cond (is_one_of n w) (Some (nat_abs w)) None → o ≡ None → is_one_of n z ≡ false
 unnamed n z w q e h = ap (is_one_of n) (sym q) ∙ none-given (is_one_of n w) (nat_abs w) (sym e ∙ h)
-
--- every refusal has a number
-number-some : (r : Refusal) → number_of r ≡ 0 → ⊥
-number-some Unsound e = absurd (omega arith)
-number-some Lists e = absurd (omega arith)
-number-some NoSuchAccount e = absurd (omega arith)
-number-some NoSuchProduct e = absurd (omega arith)
-number-some Amount e = absurd (omega arith)
-number-some WrongKind e = absurd (omega arith)
-number-some WrongPhase e = absurd (omega arith)
-number-some OutOfRange e = absurd (omega arith)
-number-some PositionTooLarge e = absurd (omega arith)
-number-some GrossTooLarge e = absurd (omega arith)
-number-some (AboveLimit limit) e = absurd (omega arith)
-number-some (AccountTooLarge account) e = absurd (omega arith)
-number-some HouseTooLarge e = absurd (omega arith)
 
 -- a call by `rule` on the record of the account that z names, which puts `put`
 module _ (L : Layout) (s : Shape) (W : List ℤ) (rule : Account → Taken) (put : ℕ → Taken → List Put) (z : ℤ) (a : ℕ) (n : Named s.n z a)

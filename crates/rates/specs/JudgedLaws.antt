@@ -12,8 +12,8 @@ use Rattle.rates.specs.MarginRate.{length_ok, figures_ok, refusal, window_rate, 
 use Rattle.rates.specs.SumsLaws.{Accepted, accepted}
 use Rattle.rates.specs.RateLaws.{square_of, square_of-some, root_some, rate_at-most, rate_most, rate_above}
 use Rattle.rates.specs.declared.Judged.{Judged}
-use Rattle.rates.specs.declared.Refusal.{Refusal}
-use Rattle.rates.specs.declared.Refusal.TheVariants.{Lists, OutOfRange}
+use Rattle.rules.specs.Refusal.{number_of}
+use Rattle.rules.specs.declared.refusal.Refusal.{Refusal}
 
 max-left : (a b : ℕ) → b ≤ a → max a b ≡ a
 max-left a b h = omega arith
@@ -63,10 +63,6 @@ module _ (first second : List ℤ) (a : Accepted first) (b : Accepted second) (r
       (true_or_false (ltb ((r - 1) * (r - 1)) (square_of first)))
 
 -- ---- what two windows come to, as the call answers it: the number, the rate and the part handed back
-
-abbrev pub number_of : Refusal → ℕ
-number_of Lists = 2
-number_of OutOfRange = 8
 
 abbrev pub answer : Result Judged Refusal → Bor (List ℤ) → ℕ × ℤ × Part
 answer (Ok judged) weeks8 = (0, judged.rate, part_of judged.figures)

@@ -7,29 +7,10 @@ ghost use Rattle.rates.specs.JudgedLaws as J;
 
 use crate::root::root;
 use crate::windows::Window;
+use rules::Refusal;
 
 mod root;
 mod windows;
-
-// Why no rate is given (document 01, "Numbers returned").
-#[derive(Clone, Copy)]
-enum Refusal {
-    // A window's length.
-    Lists,
-    // A figure.
-    OutOfRange,
-}
-
-impl Refusal {
-    fn number(self) -> u64
-        ensures { result ≡ J.number_of self }
-    {
-        match self {
-            Refusal::Lists => 2,
-            Refusal::OutOfRange => 8,
-        }
-    }
-}
 
 // What two windows come to: the larger rate, and the window that gave it.
 #[derive(Clone, Copy)]

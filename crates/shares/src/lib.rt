@@ -3,37 +3,13 @@
 
 ghost use Rattle.std.specs.Prelude.{◌≡◌};
 ghost use Rattle.shares.specs.Loss as L;
-ghost use Rattle.shares.specs.Refused.{number_of};
 
 use crate::layers::shared;
 use crate::refusals::refusal;
-use rules::Reply;
+use rules::{Refusal, Reply};
 
 mod layers;
 mod refusals;
-
-// Why a loss is not shared (document 01, "Numbers returned").
-#[derive(Clone, Copy)]
-enum Refusal {
-    // A list's length.
-    Lists,
-    // The loss.
-    Amount,
-    // A member's deposit, difference or mark.
-    OutOfRange,
-}
-
-impl Refusal {
-    fn number(self) -> u64
-        ensures { result ≡ number_of self }
-    {
-        match self {
-            Refusal::Lists => 2,
-            Refusal::Amount => 5,
-            Refusal::OutOfRange => 8,
-        }
-    }
-}
 
 // The call: what remains of the loss, with the shares of layer one in `first` and those of layer two in `second`; or a refusal, with nothing
 // written.

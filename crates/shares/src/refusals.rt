@@ -3,7 +3,7 @@ ghost use Rattle.std.specs.Prelude.{◌≡◌, length};
 ghost use Rattle.shares.specs.Loss as L;
 ghost use Rattle.shares.specs.Refused.{number};
 
-use crate::Refusal;
+use rules::Refusal;
 
 // Five lists of one length, 1 to 64.
 fn one_length(n: usize, differences: usize, marks: usize, first: usize, second: usize) -> bool

@@ -10,7 +10,9 @@ use mir.ValLaws.{to_z_pos}
 use Rattle.whole.specs.Signs.{arg}
 use Rattle.shares.specs.Loss.{refusal, loss_shared, most_loss}
 use Rattle.shares.specs.LossLaws.{covered}
-use Rattle.shares.specs.Refused.{number_of, number, number_some}
+use Rattle.rules.specs.Refusal.{number_of}
+use Rattle.rules.proofs.RefusalLaws.{number-some}
+use Rattle.shares.specs.Refused.{number}
 use Rattle.shares.specs.Accepted.{Accepted, accepted}
 use Rattle.shares.proofs.share_loss.Goals.{After-refusal, After-shared-rest, After-unsigned_abs, In-None}
 use Rattle.shares.proofs.share_loss.Goals as goal
@@ -26,7 +28,7 @@ unfolding loss_shared
 returns-in-Some c =
     let r = c.in-Some.refusal in
     let e = sym (ap number c.in-Some.is) ∙ refusal_is (goal.at.returns-in-Some c).After-refusal in
-    rw (← e, ne_eqb (number_of r) 0 (number_some r), c.number.ensures) refl
+    rw (← e, ne_eqb (number_of r) 0 (number-some r), c.number.ensures) refl
 
 -- the call was not refused
 fine : (c : In-None) →
