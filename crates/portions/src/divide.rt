@@ -1,5 +1,6 @@
 // amount × weight / sum, exact though the product passes 64 bits.
-ghost use Rattle.std.specs.Prelude.{◌≡◌, ◌*◌, ◌/◌, ◌%◌, ◌≤◌, ◌<◌};
+ghost use Rattle.std.specs.Prelude.{◌≡◌, ◌*◌, ◌/◌, ◌%◌, ◌^◌, ◌+◌, ◌≤◌, ◌<◌};
+ghost use Rattle.portions.specs.Ratio as R;
 
 #[derive(Clone, Copy)]
 pub struct Quot {
@@ -7,16 +8,106 @@ pub struct Quot {
     pub remainder: u64,
 }
 
-// amount × weight / sum and its remainder, in 128 bits. Since the weight is at most the sum, the quotient is at most the amount.
-pub fn part_of(amount: u64, weight: u64, sum: u64) -> Quot
-    requires part { weight ≤ sum }
-    requires some { 0 < sum }
-    ensures { (result.quotient ≡ amount * weight / sum) × (result.remainder ≡ amount * weight % sum) }
+// a * b / c in 128 bits, where b is at most c: the quotient is at most a.
+fn mul_div(a: u64, b: u64, c: u64) -> Quot
+    requires part { b ≤ c }
+    requires some { 0 < c }
+    ensures { (result.quotient ≡ a * b / c) × (result.remainder ≡ a * b % c) }
 {
-    let product = u128::from(amount) * u128::from(weight);
-    let whole = u128::from(sum);
+    let product = u128::from(a) * u128::from(b);
+    let whole = u128::from(c);
     Quot {
         quotient: (product / whole) as u64,
         remainder: (product % whole) as u64,
+    }
+}
+
+// A narrow ratio made ready for many weights: 2^15 and 2^30 times the amount, divided by the sum once.
+#[derive(Clone, Copy)]
+pub struct Ready {
+    pub quotient15: u64,
+    pub remainder15: u64,
+    pub quotient30: u64,
+    pub remainder30: u64,
+}
+
+// The two divisions, the second on top of the first.
+fn divided(amount: u64, sum: u64) -> Ready
+    requires fact_1 { amount ≤ sum }
+    requires fact_2 { 0 < sum }
+    requires fact_3 { sum ≤ 2 ^ 46 }
+    ensures { result ≡ R.divided amount sum }
+{
+    let first = amount * 32768;
+    let quotient15 = first / sum;
+    let remainder15 = first % sum;
+    let second = remainder15 * 32768;
+    Ready {
+        quotient15,
+        remainder15,
+        quotient30: quotient15 * 32768 + second / sum,
+        remainder30: second % sum,
+    }
+}
+
+// The ratio is narrow where the amount is at most the sum and the sum at most 2^46: every layer of document 01 is. Where it is not, nothing is divided.
+#[tactic(auto, unfolding(crate::specs::Ratio::ratio_of))]
+fn ratio_of(amount: u64, sum: u64) -> Option<Ready>
+    requires { 0 < sum }
+    ensures { result ≡ R.ratio_of amount sum }
+{
+    if amount <= sum && sum <= 0x4000_0000_0000 {
+        Some(divided(amount, sum))
+    } else {
+        None
+    }
+}
+
+// The ratio of an amount to a sum.
+#[derive(Clone, Copy)]
+pub struct Ratio {
+    pub amount: u64,
+    pub sum: u64,
+    pub ready: Option<Ready>,
+    ghost some: { 0 < sum },
+    ghost is_ready: { ready ≡ R.ratio_of amount sum },
+}
+
+impl Ratio {
+    pub fn of(amount: u64, sum: u64) -> Ratio
+        requires { 0 < sum }
+        ensures { (result.amount ≡ amount) × (result.sum ≡ sum) }
+    {
+        let ready = ratio_of(amount, sum);
+        Ratio { amount, sum, ready }
+    }
+
+    // With a narrow ratio a weight takes one division: its three digits of 15 bits (the highest may have 16) take so many times the quotients and remainders
+    // made ready, and what the remainders come to is below 2^63.
+    fn part_narrow(self, ready: Ready, weight: u64) -> Quot
+        requires fact_1 { R.Ratio self.amount self.sum ready.quotient15 ready.remainder15 ready.quotient30 ready.remainder30 }
+        requires fact_2 { weight ≤ self.sum }
+        ensures { (result.quotient ≡ self.amount * weight / self.sum) × (result.remainder ≡ self.amount * weight % self.sum) }
+    {
+        let upper = weight / 32768;
+        let high = upper / 32768;
+        let middle = upper % 32768;
+        let low = weight % 32768;
+        let rest = high * ready.remainder30 + middle * ready.remainder15 + low * self.amount;
+        Quot {
+            quotient: high * ready.quotient30 + middle * ready.quotient15 + rest / self.sum,
+            remainder: rest % self.sum,
+        }
+    }
+
+    // amount × weight / sum and its remainder.
+    pub fn part_of(self, weight: u64) -> Quot
+        requires { weight ≤ self.sum }
+        ensures { (result.quotient ≡ self.amount * weight / self.sum) × (result.remainder ≡ self.amount * weight % self.sum) }
+    {
+        match self.ready {
+            Some(ready) => self.part_narrow(ready, weight),
+            None => mul_div(self.amount, weight, self.sum),
+        }
     }
 }

@@ -8,7 +8,7 @@ ghost use Rattle.portions.specs.Share as S;
 ghost use Rattle.portions.specs.Cut.{Cuts, Seen, remainders_of};
 ghost use Rattle.portions.specs.Bounds.{Weights, most_amount, most_members};
 
-use crate::divide::part_of;
+use crate::divide::Ratio;
 
 mod divide;
 
@@ -33,9 +33,10 @@ impl Sharing<'_> {
         ensures remainders_after { remainders.new ≡ remainders_of self.entry.amount self.entry.weights.now }
         ensures out_after { out.new ≡ S.floors self.entry.amount self.entry.weights.now }
     {
+        let ratio = Ratio::of(self.amount, self.sum);
         let mut given: u64 = 0;
         for (i, weight) in self.weights.iter().enumerate() {
-            let part = part_of(self.amount, *weight, self.sum);
+            let part = ratio.part_of(*weight);
             remainders[i] = part.remainder;
             out[i] = part.quotient as i64;
             given += part.quotient;

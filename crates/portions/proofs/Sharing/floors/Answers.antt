@@ -23,11 +23,11 @@ loop-i-init c =
     let w = of_member s.weights.now in
     (c.requires.out_long, c.requires.remainders_long, filled_none (remainder_of n w s.amount) c.args.remainders.now, filled_none (λ k. pos (floor_of n w s.amount k)) c.args.out.now, refl)
 
-pub part_of-part-requires-clause-part : goal.part_of-part-requires-clause-part
-part_of-part-requires-clause-part c =
+pub part_of-part-requires : goal.part_of-part-requires
+part_of-part-requires c =
     let s = c.args.self in
     let ws = s.weights.now in
-    omega (arith, s.sum_is, total-one (length ws) (of_member ws) c.loop-i.i (omega arith))
+    omega (arith, c.of-ratio.ensures.1, s.sum_is, total-one (length ws) (of_member ws) c.loop-i.i (omega arith))
 
 -- somebody has a weight
 some-weight : (c : Start) → let ws = c.args.self.weights.now in 0 < total (length ws) (of_member ws)
@@ -46,8 +46,9 @@ got c =
     let ws = s.weights.now in
     let i = c.loop-i.i in
     let e = c.part_of-part.ensures in
-    let q : c.part_of-part.result.quotient ≡ floor_of (length ws) (of_member ws) s.amount i = rw s.sum_is at e.0 in
-    (q, rw s.sum_is at e.1, omega (arith, q, floor-most (length ws) (of_member ws) s.amount (some-weight (goal.at.After-part_of-part c).Start) i (omega arith)))
+    let ratio = c.of-ratio.ensures in
+    let q : c.part_of-part.result.quotient ≡ floor_of (length ws) (of_member ws) s.amount i = rw (ratio.0, ratio.1, s.sum_is) at e.0 in
+    (q, rw (ratio.0, ratio.1, s.sum_is) at e.1, omega (arith, q, floor-most (length ws) (of_member ws) s.amount (some-weight (goal.at.After-part_of-part c).Start) i (omega arith)))
 
 pub overflow_cast-out : goal.overflow_cast-out
 overflow_cast-out c = let g = got (goal.at.overflow_cast-out c).After-part_of-part in omega (arith, g.2, c.args.self.amount_in)
