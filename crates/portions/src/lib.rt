@@ -44,7 +44,7 @@ impl Sharing<'_> {
         self.amount - given
     }
 
-    // Each word of `out` is that member's share. The remainders have room of their own.
+    // Each word of `out`, the caller's own list, is that member's share. The remainders have room of their own.
     fn share(self, remainders: &mut [u64], out: &mut [i64])
         requires remainders_long { length remainders.old ≡ length self.weights.now }
         requires out_long { length out.old ≡ length self.weights.now }
@@ -75,7 +75,7 @@ struct Member {
 }
 
 impl Member {
-    // Whether this member comes before the other: the larger remainder first, the lower account on a tie.
+    // Whether this member comes before the other: the larger remainder first, the lower account on a tie. A derived order would have to turn the remainder round.
     fn comes_before(self, other: Member) -> bool
         ensures { result ≡ S.comes_before self.remainder self.number other.remainder other.number }
     {

@@ -37,7 +37,7 @@ fn large_root(s: u32) -> u32
     if half * half < s { half + 1 } else { half }
 }
 
-// large / 2^k, rounded up.
+// large / 2^k, rounded up: a shift, where `div_ceil` divides.
 fn moved_back(large: u32, k: u32) -> u32
     requires fact_1 { k ≤ 12 }
     requires fact_2 { large ≤ 8192 }

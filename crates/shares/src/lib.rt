@@ -12,7 +12,7 @@ mod layers;
 mod refusals;
 
 // The call: what remains of the loss, with the shares of layer one in `first` and those of layer two in `second`; or a refusal, with nothing
-// written.
+// written. Five lists and not one of members, since the C interface lends them so (`fx_share`).
 pub fn share_loss(
     loss: i64,
     deposits: &[i64],
