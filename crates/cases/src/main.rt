@@ -54,6 +54,7 @@ fn agrees(line: &[u8], kind: Kind) -> bool {
     }
 }
 
+// A loop over places: slices have no `split_inclusive` yet.
 fn counted(text: &[u8], kind: Kind) -> Count {
     let mut at = 0;
     let mut count = Count { cases: 0, wrong: 0 };
@@ -69,7 +70,7 @@ fn counted(text: &[u8], kind: Kind) -> Count {
     count
 }
 
-// Reads until the input ends or `text` is full; how many bytes came.
+// Reads until the input ends or `text` is full; how many bytes came. The library's `read_to_end` needs a Vec, and the gate's programs ask for no heap.
 fn read_text(source: &mut impl Read, text: &mut [u8]) -> io::Result<usize>
     ensures { IfOk result (λ n. n ≤ length text.old) }
 {
