@@ -2,7 +2,7 @@
 use crate::kinds::Kind;
 use crate::reading::Case;
 use crate::sums;
-use rules::{Account, Taken};
+use rules::{Account, Reply};
 
 fn record_sum(a: Account) -> i64 {
     let record = [
@@ -32,7 +32,7 @@ fn account_of(record: [i64; 8]) -> Account {
     }
 }
 
-fn call(kind: Kind, account: Account, amount: i64) -> Taken {
+fn call(kind: Kind, account: Account, amount: i64) -> (Reply, Account) {
     match kind {
         Kind::TellersDeposit => teller::deposit_by_value(account, amount),
         _ => teller::withdraw_by_value(account, amount),
@@ -44,6 +44,6 @@ pub fn agrees(mut case: Case, kind: Kind) -> bool {
     let mut record = [0; 8];
     case.list(&mut amount);
     case.list(&mut record);
-    let taken = call(kind, account_of(record), amount[0]);
-    case.ends(taken.number, [taken.figure, record_sum(taken.account)])
+    let (reply, after) = call(kind, account_of(record), amount[0]);
+    case.ends(reply.number, [reply.figure, record_sum(after)])
 }

@@ -1,6 +1,6 @@
 // A figure's line: its name, what came, `=`, and what the paper says; a call's answer is its number and its figure. The calls are made on records
 // of which nothing is known, so each tests first what its rule asks.
-use rules::{Account, Standing, Taken, accounts, calls};
+use rules::{Account, Refusal, Reply, Standing, accounts, calls};
 use std::{fmt, io};
 
 // ---- printing
@@ -26,10 +26,10 @@ pub fn figure<'a>(name: &'a str, came: i64, expected: i64) -> Line<'a> {
     }
 }
 
-pub fn call<'a>(name: &'a str, came: Taken, refusal: u64, figure: i64) -> Line<'a> {
+pub fn call<'a>(name: &'a str, came: (Reply, Account), refusal: u64, figure: i64) -> Line<'a> {
     Line {
         name,
-        came: Said::Answer(came.number, came.figure),
+        came: Said::Answer(came.0.number, came.0.figure),
         expected: Said::Answer(refusal, figure),
     }
 }
@@ -93,22 +93,16 @@ pub fn question(account: Account) -> Standing {
     if accounts::account_ok(account) {
         return calls::standing_of(account);
     }
-    Standing {
-        number: 1,
-        limit: 0,
-        first: 0,
-        second: 0,
-    }
+    Standing::refused(Refusal::Unsound)
 }
 
-pub fn guarantee(account: Account, value: i64, cap: i64) -> Taken {
-    if accounts::account_ok(account) {
-        return calls::guaranteed(account, value, cap);
+pub fn guarantee(account: Account, value: i64, cap: i64) -> (Reply, Account) {
+    if !accounts::account_ok(account) {
+        return (Reply::from(Err(Refusal::Unsound)), account);
     }
-    Taken {
-        number: 1,
-        figure: 0,
-        account,
+    match calls::guaranteed(account, value, cap) {
+        Ok(accepted) => (Reply::from(Ok(accepted.figure)), accepted.account),
+        Err(refusal) => (Reply::from(Err(refusal)), account),
     }
 }
 
