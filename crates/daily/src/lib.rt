@@ -73,12 +73,7 @@ pub fn lists_ok(words: &[i64], s: Shape, figures: Figures) -> bool
     requires lengths { Lengths s.p figures.prices.now figures.rates8.now figures.rates104.now figures.lags.now }
     ensures { result ≡ all s.p (of_lists figures.entry F.figure_ok (get by_account s words.now)) }
 {
-    for j in 0..s.p {
-        if !figure_ok(words, s, j, figures) {
-            return false;
-        }
-    }
-    true
+    (0..s.p).all(|j| figure_ok(words, s, j, figures))
 }
 
 // ---- dues

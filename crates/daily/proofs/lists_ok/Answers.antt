@@ -1,12 +1,16 @@
--- `lists_ok` meets its contract: the products before j passed. Assumes nothing.
-use native.Mathlib.Omega.{arith}
-use mathlib.Core.Path.{sym}
-use Rattle.whole.specs.CountingLaws.{all-fails}
-use Rattle.whole.specs.Tests.{fails}
-use Rattle.daily.proofs.lists_ok.Invariants.{ok}
-use Rattle.std.proofs.Common.{ap, not}
+-- `lists_ok` meets its contract: each product is tested, until one fails. Assumes nothing.
+use Rattle.std.specs.Prelude.{◌≡◌, refl, Bool, true, false, ℕ}
+use Rattle.std.proofs.Common.{rules, arith}
+use Rattle.std.proofs.lemmas.Iterator.{cases_from_all, YieldsList-from_range}
+use Rattle.places.specs.Place.{get}
+use Rattle.places.specs.ByAccount.{by_account}
+use Rattle.daily.specs.DailyFigures.{figure_ok}
+use Rattle.daily.specs.Given.{of_lists}
+use Rattle.daily.proofs.AllOf.{all_below}
 use Rattle.daily.proofs.lists_ok.Goals as goal
 
-pub returns-then-not-figure_ok : goal.returns-then-not-figure_ok
-returns-then-not-figure_ok c =
-    sym (all-fails c.args.s.p (ok c.args.words.now c.args.s c.args.figures) c.loop-j.j (omega arith) (fails c.figure_ok.ensures (ap not c.if-not-figure_ok.true)))
+pub returns : goal.returns
+returns c =
+    let p = c.args.s.p in let ok : ℕ → Bool = of_lists c.args.figures figure_ok (get by_account c.args.s c.args.words.now) in
+    all_below p ok c.all.result
+    (cases_from_all _ _ _ (λ x. ok x ≡ true) (λ x. ok x ≡ false) c.all.ensures.ran (YieldsList-from_range 0 p p refl (omega arith)) (λ x q k. search rules) (λ x q k. search rules))

@@ -1,0 +1,2 @@
+-- What `all` over the numbers below n gives (`AllOf`).
+pub mod AllOf
