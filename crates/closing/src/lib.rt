@@ -33,11 +33,10 @@ const FAR_GROSS: u64 = rules::sizes::MOST_GROSS - daily::MOST_ADDED;
 
 // The lowest account whose gross would pass its range: account by account and due by due, on finished dues, left at the first excess. The dues of an
 // account that is far from its range are not worked out.
-fn first_over(words: &[i64], s: Shape, figures: Figures, new: &mut [i64]) -> Option<usize>
+fn first_over(words: &[i64], s: Shape, figures: Figures) -> Option<usize>
     requires ready { Ready figures.prices.now s (get by_account s words.now) }
     requires sized { Sized s words.now }
     requires lags { Lags s.p figures.lags.now }
-    requires len { length new.old ≡ dues }
     ensures { result ≡ first s.n (over_gross figures.entry.prices.now figures.entry.lags.now s (get by_account s words.now)) }
 {
     let mut found = None;
@@ -45,7 +44,7 @@ fn first_over(words: &[i64], s: Shape, figures: Figures, new: &mut [i64]) -> Opt
         if daily::moved_gross(words, s, a) <= FAR_GROSS {
             continue;
         }
-        daily::new_dues(words, s, a, figures, new);
+        let new = daily::new_dues(words, s, a, figures);
         let mut gross = places::acct_word(words, s, a, places::CASH).unsigned_abs();
         for due in new.iter() {
             gross += due.unsigned_abs();
@@ -184,8 +183,7 @@ fn close_all(words: &mut [i64], s: Shape, figures: Figures) -> Result<i64, Refus
     requires words_value { all s.p (of_lists figures figure_ok (get by_account s words.old)) ≡ true }
     ensures { (answer_of result, words.new) ≡ finish by_account s words.old (of_lists figures.entry C.closing s (get by_account s words.old)) }
 {
-    let mut new = [0; places::DUES];
-    if let Some(a) = first_over(words, s, figures, &mut new) {
+    if let Some(a) = first_over(words, s, figures) {
         return Err(Refusal::AccountTooLarge(a as i64));
     }
     close_words(words, s, figures);

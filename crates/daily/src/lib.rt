@@ -144,16 +144,18 @@ fn add_differences(words: &[i64], s: Shape, a: usize, figures: Figures, new: &mu
 }
 
 // The new dues of an account.
-pub fn new_dues(words: &[i64], s: Shape, a: usize, figures: Figures, new: &mut [i64])
+pub fn new_dues(words: &[i64], s: Shape, a: usize, figures: Figures) -> [i64; places::DUES]
     requires sized { Sized s words.now }
     requires named { Named figures.prices.now s (get by_account s words.now) × Row figures.prices.now s (get by_account s words.now) a }
     requires each_due_in { EachDueIn (get by_account s words.now) a }
     requires lags { Lags s.p figures.lags.now }
-    requires a_lt_n { (a < s.n) × (length new.old ≡ dues) }
-    ensures { new.new ≡ listed dues (F.new_due figures.entry.prices.now figures.entry.lags.now s (get by_account s words.now) a) }
+    requires a_lt_n { a < s.n }
+    ensures { result ≡ listed dues (F.new_due figures.entry.prices.now figures.entry.lags.now s (get by_account s words.now) a) }
 {
-    move_down(words, s, a, new);
-    add_differences(words, s, a, figures, new);
+    let mut new = [0; places::DUES];
+    move_down(words, s, a, &mut new);
+    add_differences(words, s, a, figures, &mut new);
+    new
 }
 
 // The gross of an account whose dues have moved down, before any difference is added.

@@ -58,8 +58,8 @@ pub loop-due-preserved : goal.loop-due-preserved
 loop-due-preserved c =
     let x = c.args in let s = x.s in let W = x.words.now in let P = x.figures.prices.now in let L = x.figures.lags.now in
     let a = c.search.a in let d = c.loop-due.due-index in let v = c.unsigned_abs-gross-in-loop-due in
-    let long = length-new_dues P L s W a _ c.new_dues.ensures in
-    let k = got s P L W a c.requires.ready c.requires.sized.few' (omega arith) c.new_dues.new.new c.new_dues.ensures d v.result (omega arith) (search rules) in (
+    let long = length-new_dues P L s W a _ c.new_dues-new.ensures in
+    let k = got s P L W a c.requires.ready c.requires.sized.few' (omega arith) c.new_dues-new.result c.new_dues-new.ensures d v.result (omega arith) (search rules) in (
       c.loop-due.invariant.0,
       more-gross (due-abs W s P L a) (nat_abs (get by_account s W (cash a))) d c.loop-due.gross v.result c.loop-due.invariant.1 k.0,
       omega arith,
@@ -68,7 +68,7 @@ loop-due-preserved c =
 pub search-preserved : goal.search-preserved
 search-preserved c =
     let x = c.args in let s = x.s in let W = x.words.now in let P = x.figures.prices.now in let L = x.figures.lags.now in
-    let d = c.loop-due.due-index in let long = length-new_dues P L s W c.search.a _ c.new_dues.ensures in
+    let d = c.loop-due.due-index in let long = length-new_dues P L s W c.search.a _ c.new_dues-new.ensures in
     let e : d ≡ dues = omega arith in
     let most : new_gross P L s (get by_account s W) c.search.a ≤ most_gross =
     subst (λ z. nat_abs (get by_account s W (cash c.search.a)) + total z (due-abs W s P L c.search.a) ≤ most_gross) e (omega (arith, c.loop-due.invariant.1)) in (
@@ -84,7 +84,7 @@ pub returns-then-over : goal.returns-then-over
 returns-then-over c =
     let x = c.args in let s = x.s in let W = x.words.now in let P = x.figures.prices.now in let L = x.figures.lags.now in let g = get by_account s W in
     let a = c.search.a in let d = c.loop-due.due-index in let v = c.unsigned_abs-gross-in-loop-due in
-    let long = length-new_dues P L s W a _ c.new_dues.ensures in
-    let k = got s P L W a c.requires.ready c.requires.sized.few' (omega arith) c.new_dues.new.new c.new_dues.ensures d v.result (omega arith) (search rules) in
+    let long = length-new_dues P L s W a _ c.new_dues-new.ensures in
+    let k = got s P L W a c.requires.ready c.requires.sized.few' (omega arith) c.new_dues-new.result c.new_dues-new.ensures d v.result (omega arith) (search rules) in
     first-found s.n (over_gross P L s g) a (omega arith) c.search.invariant.1
     (lt-ltb most_gross (new_gross P L s g a) (over-then (due-abs W s P L a) (nat_abs (g (cash a))) d c.loop-due.gross v.result c.loop-due.invariant.1 k.0 (omega arith) c.if-over.true))
