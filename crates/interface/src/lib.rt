@@ -46,12 +46,9 @@ pub fn fx_question(
     ensures { (record { number = result; limit = limit.new; first = first.new; second = second.new }, words.now) ≡ ask by_account words.now (Q.question_rule account) }
 {
     let standing = ledger::question(words, account);
-    let l = standing.limit;
-    let f = standing.first;
-    let s = standing.second;
-    *limit = l;
-    *first = f;
-    *second = s;
+    *limit = standing.limit;
+    *first = standing.first;
+    *second = standing.second;
     standing.number
 }
 
@@ -115,8 +112,8 @@ pub fn fx_rate<'a>(
 ) -> Reply
     ensures { (result, count.new, governs.new.ref_ptr) ≡ P.rated_in_c weeks8.entry weeks104.entry governs.old.ref_ptr }
 {
-    let mut number: u64 = 0;
-    let mut rate: i64 = 0;
+    let mut number = 0;
+    let mut rate = 0;
     let part = rates::governing(weeks8, weeks104, &mut number, &mut rate);
     let many = part.len();
     *count = many;
@@ -126,7 +123,7 @@ pub fn fx_rate<'a>(
         *governs = &weeks8[0];
     }
     Reply {
-        number: number,
+        number,
         figure: rate,
     }
 }
