@@ -207,7 +207,8 @@ pub fn close_in(words: &mut [i64], s: Shape, figures: Figures) -> Result<i64, Re
     close_all(words, s, figures)
 }
 
-// The close of a day, with the new price, the two rates and the lag of each product.
+// The close of a day, with the new price, the two rates and the lag of each product. Five lists and a reply, as C calls it: the theorems of tight and
+// stretches speak of this contract.
 pub fn close(
     words: &mut [i64],
     prices: &[i64],

@@ -1,5 +1,6 @@
 // The ledger's calls on the words (01, "The day"). Each entry point takes any list of words and any figures: it refuses what is not a sound
-// ledger with 1, and else hands the words to the function behind the gate, which does not test them again.
+// ledger with 1, and else hands the words to the function behind the gate, which does not test them again and answers a Result. The entry points
+// themselves answer a number and a figure, as C gets them: the theorems of tight and stretches speak of these contracts.
 #![tactic(auto)]
 
 ghost use Rattle.std.specs.Prelude.{◌≡◌};

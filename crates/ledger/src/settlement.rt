@@ -17,7 +17,7 @@ pub fn begin_in(words: &mut [i64], s: Shape) -> Result<i64, Refusal>
     requires { Ledger by_account s words.old }
     ensures { (answer_of result, words.new) ≡ finish by_account s words.old (R.begin_rule s (get by_account s words.old)) }
 {
-    if !whole::between(places::head_word(words, s, places::PHASE), 0, 0) {
+    if places::head_word(words, s, places::PHASE) != 0 {
         return Err(Refusal::WrongPhase);
     }
     if !soundness::run::stays(words, s, places::head_word(words, s, places::HOUSE), 0) {

@@ -79,9 +79,7 @@ pub fn words_of(s: Shape) -> usize
     requires { (s.n ≤ most_accounts) × (s.p ≤ most_products) }
     ensures { result ≡ words_of s }
 {
-    let n = s.n;
-    let p = s.p;
-    HEADS + PRODUCT_FIELDS * p + n * (FIELDS + HELD_FIELDS * p)
+    HEADS + PRODUCT_FIELDS * s.p + s.n * (FIELDS + HELD_FIELDS * s.p)
 }
 
 pub fn prod_at(s: Shape, j: usize, f: usize) -> usize
@@ -97,8 +95,7 @@ pub fn acct_at(s: Shape, a: usize, f: usize) -> usize
     requires has { Has s (acct a f) }
     ensures { (result ≡ by_account.at s (acct a f)) × (result < words_of s) }
 {
-    let p = s.p;
-    HEADS + PRODUCT_FIELDS * p + a * (FIELDS + HELD_FIELDS * p) + f
+    HEADS + PRODUCT_FIELDS * s.p + a * (FIELDS + HELD_FIELDS * s.p) + f
 }
 
 fn held_at(s: Shape, a: usize, j: usize, f: usize) -> usize
@@ -106,8 +103,7 @@ fn held_at(s: Shape, a: usize, j: usize, f: usize) -> usize
     requires has { Has s (held a j f) }
     ensures { (result ≡ by_account.at s (held a j f)) × (result < words_of s) }
 {
-    let p = s.p;
-    HEADS + PRODUCT_FIELDS * p + a * (FIELDS + HELD_FIELDS * p) + (FIELDS + HELD_FIELDS * j + f)
+    HEADS + PRODUCT_FIELDS * s.p + a * (FIELDS + HELD_FIELDS * s.p) + (FIELDS + HELD_FIELDS * j + f)
 }
 
 // ---- reads

@@ -65,6 +65,7 @@ fn beside(j: usize, p: usize) -> usize
     if j + 1 < p { j + 1 } else { j }
 }
 
+// A `while`: the next turn begins behind k, which is j itself where one product is left over. `step_by(2)` would count on without saying so.
 pub fn all_positions_ok(words: &[i64], s: Shape) -> bool
     requires { Sized s words.now }
     ensures { result ≡ all s.p (S.positions_ok s.n (get by_account s words.now)) }

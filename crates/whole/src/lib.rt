@@ -4,7 +4,8 @@
 ghost use Rattle.std.specs.Prelude.{◌≡◌, ◌*◌, ◌%◌, ◌≤◌, ◌<◌, ◌^◌, cond, nat_abs};
 ghost use Rattle.whole.specs.Number as N;
 
-// Whether x lies between lo and hi.
+// Whether x lies between lo and hi. It stays beside `contains` of a range: its clause is the definitions' own word, where that of `contains` speaks of an
+// order and the range's ends, so that a chain of tests would have to be translated one by one.
 pub fn between(x: i64, lo: i64, hi: i64) -> bool
     ensures { result ≡ N.between lo hi x }
 {

@@ -5,7 +5,6 @@ use lib.IntN.{pos}
 use Rattle.whole.specs.Signs.{back}
 use Rattle.places.specs.PlaceLaws.{head-word}
 use Rattle.places.specs.ByAccount.{by_account}
-use borrow.Author.Rules.{rules}
 use Rattle.places.proofs.head_word.Goals as goal
 
 pub returns : goal.returns

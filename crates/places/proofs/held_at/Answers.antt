@@ -1,13 +1,7 @@
 -- `held_at` meets its contract: the products of the counts fit; the place is inside by the layout's law. Assumes nothing.
-use Prim.Native.Nat.{◌*◌, ◌≤◌}
-use native.Mathlib.Omega.{arith}
 use mathlib.Core.Path.{refl}
 use Rattle.places.specs.Place.{held}
-use Rattle.places.specs.Act.{most_accounts, most_products}
-use Rattle.places.specs.ByAccountWords.{record_size}
-use Rattle.places.specs.ByAccountLaws.{records_most}
 use Rattle.places.specs.ByAccount.{by_account}
-use borrow.Author.Rules.{rules}
 use Rattle.places.proofs.held_at.Goals as goal
 
 pub returns : goal.returns

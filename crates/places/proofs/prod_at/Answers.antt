@@ -2,7 +2,6 @@
 use mathlib.Core.Path.{refl}
 use native.Mathlib.Omega.{arith}
 use Rattle.places.specs.ByAccount.{by_account}
-use borrow.Author.Rules.{rules}
 use Rattle.places.proofs.prod_at.Goals as goal
 
 pub returns : goal.returns

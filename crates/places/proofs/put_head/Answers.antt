@@ -4,7 +4,6 @@ use lib.ListN.{set}
 use Rattle.whole.specs.Signs.{arg}
 use Rattle.places.specs.PlaceLaws.{head-put}
 use Rattle.places.specs.ByAccount.{by_account}
-use borrow.Author.Rules.{rules}
 use Rattle.places.proofs.put_head.Goals as goal
 
 pub returns : goal.returns

@@ -8,7 +8,7 @@ use Rattle.rules.specs.Sizes.{most_house}
 use Rattle.places.specs.Place.{View, get, house}
 use Rattle.places.specs.ByAccount.{by_account}
 use Rattle.soundness.specs.SoundLaws.{ledger_facts, facts_dues}
-use Rattle.ledger.proofs.settlement.begin_in.Goals.{After-between, After-stays, Else-not-between, Start}
+use Rattle.ledger.proofs.settlement.begin_in.Goals.{Start}
 use Rattle.ledger.proofs.settlement.begin_in.Goals as goal
 
 module _ (s : Start) where
