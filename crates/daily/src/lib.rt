@@ -117,15 +117,13 @@ fn difference(words: &[i64], s: Shape, a: usize, j: usize, prices: &[i64]) -> i6
     )
 }
 
-// The dues move down by one.
-fn move_down(words: &[i64], s: Shape, a: usize, new: &mut [i64])
+// The dues, moved down by one.
+fn moved_down(words: &[i64], s: Shape, a: usize) -> [i64; places::DUES]
     requires sized { Sized s words.now }
-    requires a_lt_n { (a < s.n) × (length new.old ≡ dues) }
-    ensures { new.new ≡ listed dues (F.next_due (get by_account s words.now) a) }
+    requires a_lt_n { a < s.n }
+    ensures { result ≡ listed dues (F.next_due (get by_account s words.now) a) }
 {
-    for d in 0..places::DUES {
-        new[d] = next_due(words, s, a, d);
-    }
+    std::array::from_fn(|d| next_due(words, s, a, d))
 }
 
 // Each product's difference is added to the due that its lag names.
@@ -152,8 +150,7 @@ pub fn new_dues(words: &[i64], s: Shape, a: usize, figures: Figures) -> [i64; pl
     requires a_lt_n { a < s.n }
     ensures { result ≡ listed dues (F.new_due figures.entry.prices.now figures.entry.lags.now s (get by_account s words.now) a) }
 {
-    let mut new = [0; places::DUES];
-    move_down(words, s, a, &mut new);
+    let mut new = moved_down(words, s, a);
     add_differences(words, s, a, figures, &mut new);
     new
 }
