@@ -39,6 +39,7 @@ fn first_over(words: &[i64], s: Shape, figures: Figures) -> Option<usize>
     requires lags { Lags s.p figures.lags.now }
     ensures { result ≡ first s.n (over_gross figures.entry.prices.now figures.entry.lags.now s (get by_account s words.now)) }
 {
+    // Left by a label, a form that the paper asks for (docs/DECISIONS.md, "Required forms"): so the account found is kept in a variable.
     let mut found = None;
     'search: for a in 0..s.n {
         if daily::moved_gross(words, s, a) <= FAR_GROSS {
@@ -168,14 +169,6 @@ fn close_words(words: &mut [i64], s: Shape, figures: Figures)
 
 // ---- the call
 
-fn phase_is(words: &[i64], s: Shape, f: usize) -> bool
-    requires sized { Sized s words.now }
-    requires f_bound { f ≤ most_accounts + 1 }
-    ensures { result ≡ is f (get by_account s words.now phase) }
-{
-    places::head_word(words, s, places::PHASE) == f as i64
-}
-
 // The close, where its lists and the phase are right.
 fn close_all(words: &mut [i64], s: Shape, figures: Figures) -> Result<i64, Refusal>
     requires ledger { Ledger by_account s words.old }
@@ -198,7 +191,7 @@ pub fn close_in(words: &mut [i64], s: Shape, figures: Figures) -> Result<i64, Re
     if !daily::lengths_ok(s.p, figures) {
         return Err(Refusal::Lists);
     }
-    if !phase_is(words, s, s.n + 1) {
+    if places::head_word(words, s, places::PHASE) != (s.n + 1) as i64 {
         return Err(Refusal::WrongPhase);
     }
     if !daily::lists_ok(words, s, figures) {
@@ -207,8 +200,7 @@ pub fn close_in(words: &mut [i64], s: Shape, figures: Figures) -> Result<i64, Re
     close_all(words, s, figures)
 }
 
-// The close of a day, with the new price, the two rates and the lag of each product. Five lists and a reply, as C calls it: the theorems of tight and
-// stretches speak of this contract.
+// The close of a day, with the new price, the two rates and the lag of each product: four lists, as the C interface has them.
 pub fn close(
     words: &mut [i64],
     prices: &[i64],
