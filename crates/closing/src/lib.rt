@@ -83,8 +83,8 @@ fn start_accounts(words: &mut [i64], s: Shape)
     }
 }
 
-// What the positions in a product are closed by, read once for all accounts: its kind, its new price, the new yen price of its quote, the margin of a lot,
-// and the due that its lag names.
+// What the positions in a product are closed by on this day, read once for all accounts: its kind, its new price, the new yen price of its quote, the
+// margin of a lot, and the due that its lag names.
 #[derive(Clone, Copy)]
 struct Terms {
     kind: i64,
@@ -96,28 +96,22 @@ struct Terms {
 
 // The account a's position in the product j: its difference is added to the due that the lag names, its margin to the account's, and its book is
 // lots × price. All is read before it is written: the difference is taken against the book before the close.
-fn close_position(words: &mut [i64], s: Shape, a: usize, j: usize, terms: Terms)
+fn close_position(words: &mut [i64], s: Shape, a: usize, j: usize, day: Terms)
     requires sized { Sized s words.old }
-    requires fair { Fair terms.kind (get by_account s words.old (lots a j)) (get by_account s words.old (book a j)) terms.price terms.quoted }
-    requires roomy { Roomy (get by_account s words.old) a terms.due }
-    requires a_lt_n { (a < s.n) × (j < s.p) × (terms.due < dues) × (terms.single ≤ most_lot_margin) }
-    ensures { words.new ≡ puts by_account s words.old (W.position_puts terms.kind terms.price terms.quoted terms.single terms.due j (get by_account s words.old) a) }
+    requires fair { Fair day.kind (get by_account s words.old (lots a j)) (get by_account s words.old (book a j)) day.price day.quoted }
+    requires roomy { Roomy (get by_account s words.old) a day.due }
+    requires a_lt_n { (a < s.n) × (j < s.p) × (day.due < dues) × (day.single ≤ most_lot_margin) }
+    ensures { words.new ≡ puts by_account s words.old (W.position_puts day.kind day.price day.quoted day.single day.due j (get by_account s words.old) a) }
 {
     let lots = places::held_word(words, s, a, j, places::LOTS);
     let book = places::held_word(words, s, a, j, places::BOOK);
-    let due = places::acct_word(words, s, a, places::FIRST_DUE + terms.due);
+    let due = places::acct_word(words, s, a, places::FIRST_DUE + day.due);
     let margin = places::acct_word(words, s, a, places::MARGIN);
-    let difference = rules::products::difference_of(
-        terms.kind,
-        lots,
-        book,
-        terms.price,
-        terms.quoted,
-    );
-    let charge = rules::products::margin_at(lots, terms.single) as i64;
-    places::put_acct(words, s, a, places::FIRST_DUE + terms.due, due + difference);
+    let difference = rules::products::difference_of(day.kind, lots, book, day.price, day.quoted);
+    let charge = rules::products::margin_at(lots, day.single) as i64;
+    places::put_acct(words, s, a, places::FIRST_DUE + day.due, due + difference);
     places::put_acct(words, s, a, places::MARGIN, margin + charge);
-    places::put_held(words, s, a, j, places::BOOK, lots * terms.price);
+    places::put_held(words, s, a, j, places::BOOK, lots * day.price);
 }
 
 // The product j: what belongs to it is read once, for all accounts; then its last price.

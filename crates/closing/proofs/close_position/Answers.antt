@@ -49,59 +49,59 @@ module _ (c : After-margin_at-charge) where
   abbrev g' : View
   g' = get by_account c.args.s c.args.words.now
 
-  due-read : to_z w64 (of_z w64 c.acct_word-due.result) ≡ g' (due c.args.a c.args.terms.due)
+  due-read : to_z w64 (of_z w64 c.acct_word-due.result) ≡ g' (due c.args.a c.args.day.due)
   due-read = search rules
 
   more-is : to_z w64 (of_z w64 c.difference_of-difference.result)
-      ≡ difference_of c.args.terms.kind (g' (lots c.args.a c.args.j)) (g' (book c.args.a c.args.j)) c.args.terms.price c.args.terms.quoted
+      ≡ difference_of c.args.day.kind (g' (lots c.args.a c.args.j)) (g' (book c.args.a c.args.j)) c.args.day.price c.args.day.quoted
   more-is = search rules
 
   margin-read : to_z w64 (of_z w64 c.acct_word-margin.result) ≡ g' (margin c.args.a)
   margin-read = search rules
 
-  charge-is : to_z w64 c.margin_at-charge.result ≡ pos (margin_at (g' (lots c.args.a c.args.j)) c.args.terms.single)
+  charge-is : to_z w64 c.margin_at-charge.result ≡ pos (margin_at (g' (lots c.args.a c.args.j)) c.args.day.single)
   charge-is = search rules
 
   lots-read : to_z w64 (of_z w64 c.held_word-lots.result) ≡ g' (lots c.args.a c.args.j)
   lots-read = search rules
 
-  price-is : to_z w64 (of_z w64 c.args.terms.price) ≡ c.args.terms.price
+  price-is : to_z w64 (of_z w64 c.args.day.price) ≡ c.args.day.price
   price-is = search rules
 
   due-is : to_z w64 (of_z w64 c.acct_word-due.result) +ℤ to_z w64 (of_z w64 c.difference_of-difference.result)
-      ≡ g' (due c.args.a c.args.terms.due) +ℤ difference_of c.args.terms.kind (g' (lots c.args.a c.args.j)) (g' (book c.args.a c.args.j)) c.args.terms.price c.args.terms.quoted
+      ≡ g' (due c.args.a c.args.day.due) +ℤ difference_of c.args.day.kind (g' (lots c.args.a c.args.j)) (g' (book c.args.a c.args.j)) c.args.day.price c.args.day.quoted
   due-is = ap₂ (λ y z. y +ℤ z) due-read more-is
 
   margin-is : to_z w64 (of_z w64 c.acct_word-margin.result) +ℤ to_z w64 c.margin_at-charge.result
-      ≡ g' (margin c.args.a) +ℤ pos (margin_at (g' (lots c.args.a c.args.j)) c.args.terms.single)
+      ≡ g' (margin c.args.a) +ℤ pos (margin_at (g' (lots c.args.a c.args.j)) c.args.day.single)
   margin-is = ap₂ (λ y z. y +ℤ z) margin-read charge-is
 
-  book-is : to_z w64 (of_z w64 c.held_word-lots.result) *ℤ to_z w64 (of_z w64 c.args.terms.price) ≡ g' (lots c.args.a c.args.j) *ℤ c.args.terms.price
+  book-is : to_z w64 (of_z w64 c.held_word-lots.result) *ℤ to_z w64 (of_z w64 c.args.day.price) ≡ g' (lots c.args.a c.args.j) *ℤ c.args.day.price
   book-is = ap₂ (λ y z. y *ℤ z) lots-read price-is
 
 pub overflow_add-due : goal.overflow_add-due
 overflow_add-due c =
     let x = c.args in let r = c.requires in
-    rw (due-is (goal.at.overflow_add-due c).After-margin_at-charge) (due-fits (get by_account x.s x.words.now) x.a x.j x.terms r.fair r.roomy r.a_lt_n.3)
+    rw (due-is (goal.at.overflow_add-due c).After-margin_at-charge) (due-fits (get by_account x.s x.words.now) x.a x.j x.day r.fair r.roomy r.a_lt_n.3)
 
 pub overflow_add-margin : goal.overflow_add-margin
 overflow_add-margin c =
     let x = c.args in let r = c.requires in
-    rw (margin-is (goal.at.overflow_add-margin c).After-margin_at-charge) (margin-fits (get by_account x.s x.words.now) x.a x.j x.terms r.fair r.roomy r.a_lt_n.3)
+    rw (margin-is (goal.at.overflow_add-margin c).After-margin_at-charge) (margin-fits (get by_account x.s x.words.now) x.a x.j x.day r.fair r.roomy r.a_lt_n.3)
 
 pub overflow_mul-lots : goal.overflow_mul-lots
 overflow_mul-lots c =
     let x = c.args in let r = c.requires in
-    rw (book-is (goal.at.overflow_mul-lots c).After-margin_at-charge) (book-fits (get by_account x.s x.words.now) x.a x.j x.terms r.fair r.roomy r.a_lt_n.3)
+    rw (book-is (goal.at.overflow_mul-lots c).After-margin_at-charge) (book-fits (get by_account x.s x.words.now) x.a x.j x.day r.fair r.roomy r.a_lt_n.3)
 
 pub returns : goal.returns
 returns c =
     let x = c.args in let s = x.s in let g = get by_account s x.words.now in let r = c.requires in
-    let d = (goal.at.returns c).After-margin_at-charge in let single : x.terms.single ≤ most_lot_margin = r.a_lt_n.3 in
+    let d = (goal.at.returns c).After-margin_at-charge in let single : x.day.single ≤ most_lot_margin = r.a_lt_n.3 in
     c.put_held.ensures
     ∙ ap₂ (λ X v. put by_account s X (book x.a x.j) v)
     (c.put_acct-2.ensures
     ∙ ap₂ (λ X v. put by_account s X (margin x.a) v)
-    (c.put_acct.ensures ∙ ap (put by_account s x.words.now (due x.a x.terms.due)) (ap (λ z. to_z w64 (of_z w64 z)) (due-is d) ∙ arg (due-fits g x.a x.j x.terms r.fair r.roomy single)))
-    (ap (λ z. to_z w64 (of_z w64 z)) (margin-is d) ∙ arg (margin-fits g x.a x.j x.terms r.fair r.roomy single)))
-    (ap (λ z. to_z w64 (of_z w64 z)) (book-is d) ∙ arg (book-fits g x.a x.j x.terms r.fair r.roomy single))
+    (c.put_acct.ensures ∙ ap (put by_account s x.words.now (due x.a x.day.due)) (ap (λ z. to_z w64 (of_z w64 z)) (due-is d) ∙ arg (due-fits g x.a x.j x.day r.fair r.roomy single)))
+    (ap (λ z. to_z w64 (of_z w64 z)) (margin-is d) ∙ arg (margin-fits g x.a x.j x.day r.fair r.roomy single)))
+    (ap (λ z. to_z w64 (of_z w64 z)) (book-is d) ∙ arg (book-fits g x.a x.j x.day r.fair r.roomy single))
