@@ -35,7 +35,7 @@ pub struct Counted {
     pub next: usize,
 }
 
-// What a position's line says, and the next line.
+// What a position's line says, and the next line, or LOST, as in a field of `lines`.
 #[derive(Clone, Copy)]
 pub struct Holding {
     pub account: i64,
@@ -57,7 +57,7 @@ pub struct Contents {
     pub line: usize,
 }
 
-// Where the bodies end, or the bad line; and where the calls start.
+// Where the bodies end, LOST where a line is bad, with the number of that line; and where the calls start.
 #[derive(Clone, Copy)]
 pub struct Bodies {
     pub at: usize,

@@ -35,7 +35,7 @@ pub fn fx_guarantee(words: &mut [i64], account: i64, guarantee: i64, cap: i64) -
     ledger::guarantee(words, account, guarantee, cap)
 }
 
-// The three figures are written in every case, 0 when the question is refused.
+// The three figures are written in every case, 0 when the question is refused: C has no other way to get more than one.
 pub fn fx_question(
     words: &[i64],
     account: i64,

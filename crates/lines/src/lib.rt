@@ -16,7 +16,7 @@ pub const LONGEST: usize = 65536;
 
 pub const LOST: usize = LONGEST + 1;
 
-// Where a reader stands: its place, and the number of the line there; of a lost reader, of the bad line.
+// Where a reader stands: its place, and the number of the line there; of a lost reader LOST, and the bad line's.
 #[derive(Clone, Copy)]
 pub struct LineStart {
     pub at: usize,

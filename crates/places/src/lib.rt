@@ -39,7 +39,7 @@ pub const MOST_WORDS: usize = HEADS
 
 pub const MOST_HELD: usize = MOST_ACCOUNTS * MOST_PRODUCTS;
 
-// The words by name.
+// The words by name: places of a list that C lends, as its header names them.
 pub const ACCOUNTS: usize = 0;
 
 pub const PRODUCTS: usize = 1;

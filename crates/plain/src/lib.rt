@@ -107,7 +107,7 @@ fn say(page: &mut Page, text: &[u8], sheet: &[u8]) -> fmt::Result {
     }
 }
 
-// What is to be told of a text, by its sheet, at the start of `out`; and its length, 0 where there is nothing to tell. What has no room is cut:
+// What is to be told of a text, by its sheet, at the start of `out`, which the caller lends, since nothing here asks for memory; and its length, 0 where there is nothing to tell. What has no room is cut:
 // 512 bytes hold what is wrong with a bad text, and 262,144 every refused call of any.
 pub fn tell(text: &[u8], sheet: &[u8], out: &mut [u8]) -> usize
     ensures { result ≤ length out.new }

@@ -75,7 +75,8 @@ struct Member {
 }
 
 impl Member {
-    // Whether this member comes before the other: the larger remainder first, the lower account on a tie. A derived order would have to turn the remainder round.
+    // Whether this member comes before the other: the larger remainder first, the lower account on a tie. A derived order would turn the
+    // remainder round.
     fn comes_before(self, other: Member) -> bool
         ensures { result ≡ S.comes_before self.remainder self.number other.remainder other.number }
     {
@@ -182,7 +183,7 @@ fn hand_out(last: Member, remainders: &[u64], out: &mut [i64])
     }
 }
 
-// Each member's share is his whole weight.
+// Each member's share is his whole weight. It stands beside `fill(0)`, which needs no weights.
 fn give_all(weights: &[u64], out: &mut [i64])
     requires fact_1 { Weights weights.now }
     requires fact_2 { length out.old ≡ length weights.now }

@@ -12,7 +12,7 @@ pub fn between(x: i64, lo: i64, hi: i64) -> bool
     lo <= x && x <= hi
 }
 
-// Whether x is at most `most` in size: two comparisons, and no size is worked out.
+// Whether x is at most `most` in size: two comparisons, and no size is worked out. The definitions' own word too.
 pub fn within(x: i64, most: u64) -> bool
     requires { most < 2 ^ 63 }
     ensures { result ≡ N.within most x }
