@@ -1,7 +1,7 @@
 -- How the functions behind the gate come by what their contracts say: a question puts nothing; a call on a record is its reply and its puts.
 -- Assumes nothing.
 use Rattle.std.specs.Prelude.{◌≡◌, refl, Bool, true, false, cond, ◌||◌, List, ℤ, nat_abs, ℕ, ◌<◌, Option, Some, None, Result, Ok, Err, IsErr, IsErrAnd}
-use Rattle.std.proofs.Common.{sym, ap, ◌∙◌, arith, ne_eqb}
+use Rattle.std.proofs.Common.{sym, ap, ◌∙◌, arith, eq-eqb, ne_eqb}
 use Rattle.std.proofs.lemmas.Option.{none-some, same_Some}
 use Rattle.whole.specs.Number.{is, is_one_of, unless}
 use Rattle.whole.specs.Tests.{in-range, is-one-of}
@@ -12,8 +12,8 @@ use Rattle.places.specs.Place.{Layout, Put, get, puts}
 use Rattle.places.specs.Act.{Act, finish}
 use Rattle.soundness.specs.Sound.{account_at}
 use Rattle.soundness.specs.Perform.{refuse, refuse_question}
-use Rattle.rules.specs.AccountCalls.{Taken, taken, outcome}
-use Rattle.rules.specs.Refusal.{number_of, answer_of}
+use Rattle.rules.specs.AccountCalls.{Taken, taken, reply_of, outcome}
+use Rattle.rules.specs.Refusal.{answer_of}
 use Rattle.rules.specs.declared.refusal.Refusal.{Refusal}
 use Rattle.rules.specs.declared.Accepted.{Accepted}
 use Rattle.rules.proofs.RefusalLaws.{number-some}
@@ -31,6 +31,22 @@ question-finish L s W a = go (is_one_of s.n a)
     go : (t : Bool) → ◌≡◌ {A = Standing × List ℤ} ((unless t (refuse_question 3) o).answer, W) (finish L s W (unless t (refuse_question 3) o))
     go true = refl
     go false = refl
+
+-- a call on a record that was taken, and one that was not
+module _ (L : Layout) (s : Shape) (W : List ℤ) (t : Taken) (us : List Put) (r : Reply) (e : r ≡ reply_of t) where
+  pub taken_as : t.number ≡ 0 → (X : List ℤ) → X ≡ puts L s W us → ◌≡◌ {A = Reply × List ℤ} (r, X) (finish L s W (when_taken t us))
+  taken_as z X q = (λ i. (e i, q i)) ∙ rw (eq-eqb t.number 0 z) refl
+
+  pub not-taken_as : (t.number ≡ 0 → ⊥) → ◌≡◌ {A = Reply × List ℤ} (r, W) (finish L s W (when_taken t us))
+  not-taken_as z = (λ i. (e i, W)) ∙ rw (ne_eqb t.number 0 z) refl
+
+-- a request that names the account k of the ledger, and one that names none
+module _ {A : Type 0} (L : Layout) (s : Shape) (W : List ℤ) (nay : Act A) (a : ℤ) (f : ℕ → Account → Act A) where
+  pub at-account : (k : ℕ) → k ≡ nat_abs a → is_one_of s.n a ≡ true → finish L s W (f k (account_at (get L s W) k)) ≡ finish L s W (at_account nay a f s (get L s W))
+  at-account k e t = rw t (ap (λ z. finish L s W (f z (account_at (get L s W) z))) e)
+
+  pub no-account : is_one_of s.n a ≡ false → at_account nay a f s (get L s W) ≡ nay
+  no-account t = rw t
 
 -- ---- a request that names an account
 
@@ -66,19 +82,24 @@ module _ (L : Layout) (s : Shape) (W : List ℤ) (rule : Account → Taken) (put
   act k whose = when_taken (rule whose) (put k (rule whose))
 
   of_account : finish L s W (act a account) ≡ finish L s W (at_account (refuse 3) z act s (get L s W))
-  of_account = ap (λ whose. finish L s W (act a whose)) is ∙ rw n.yes (ap (λ k. finish L s W (act k (account_at (get L s W) k))) n.same)
+  of_account = ap (λ whose. finish L s W (act a whose)) is ∙ at-account L s W (refuse 3) z act a n.same n.yes
 
   -- refused: the words stay
   pub refusal : (r : Refusal) → o ≡ Err r → ◌≡◌ {A = Reply × List ℤ} (answer_of (Err r), W) (finish L s W (at_account (refuse 3) z act s (get L s W)))
   refusal r h =
       let t = ap (outcome account) (sym h) ∙ e in
-      let f : ◌≡◌ {A = Reply × List ℤ} (answer_of (Err r), W) (finish L s W (when_taken (outcome account (Err r)) (put a (outcome account (Err r))))) = rw (ne_eqb (number_of r) 0 (number-some r)) refl in
-      f ∙ ap (λ k. finish L s W (when_taken k (put a k))) t ∙ of_account
+      not-taken_as L s W (outcome account (Err r)) (put a (outcome account (Err r))) (answer_of (Err r)) refl (number-some r)
+      ∙ ap (λ k. finish L s W (when_taken k (put a k))) t
+      ∙ of_account
 
   -- accepted: its figure, and what it puts
   pub acceptance : (k : Accepted) → o ≡ Ok k → (X : List ℤ) → X ≡ puts L s W (put a (taken k.figure k.account))
       → ◌≡◌ {A = Reply × List ℤ} (answer_of (Ok k.figure), X) (finish L s W (at_account (refuse 3) z act s (get L s W)))
-  acceptance k h X x = let t = ap (outcome account) (sym h) ∙ e in (λ i. (answer_of (Ok k.figure), x i)) ∙ ap (λ y. finish L s W (when_taken y (put a y))) t ∙ of_account
+  acceptance k h X x =
+      let t = ap (outcome account) (sym h) ∙ e in
+      taken_as L s W (taken k.figure k.account) (put a (taken k.figure k.account)) (answer_of (Ok k.figure)) refl refl X x
+      ∙ ap (λ y. finish L s W (when_taken y (put a y))) t
+      ∙ of_account
 
 -- the error that `?` hands on
 pub handed_on : {o : Result ℤ Refusal} {r : Refusal} → IsErr o → IsErrAnd o (λ x. x ≡ r) → o ≡ Err r
