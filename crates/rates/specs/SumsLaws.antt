@@ -47,6 +47,10 @@ pub to_in : (window : List ℤ) (n : ℕ) → all n (in_range window) ≡ true �
 unfolding sums_to
 to_in window n e = rw e
 
+pub to_out : (window : List ℤ) (n : ℕ) → all n (in_range window) ≡ false → sums_to window n ≡ None
+unfolding sums_to
+to_out window n e = rw e
+
 -- sums that are left are those of figures in range
 pub left : (window : List ℤ) (n : ℕ) (s : Sums) → Some s ≡ sums_to window n → (all n (in_range window) ≡ true) × (added_to window n ≡ s)
 unfolding sums_to
