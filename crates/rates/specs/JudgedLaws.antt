@@ -7,7 +7,7 @@ use Rattle.std.proofs.Math.Nat.{le-max_left, le-max_right, max-le}
 use Rattle.std.proofs.Math.ListN.{length}
 use Rattle.std.specs.Borrow.{Bor}
 use Rattle.std.proofs.lemmas.Bool.{lt-leb}
-use Rattle.whole.specs.Tests.{both, clash, true_or_false}
+use Rattle.whole.specs.Tests.{both, clash, none, true_or_false}
 use Rattle.rates.specs.MarginRate.{length_ok, figures_ok, refusal, window_rate, governs, Part, part_of, empty_of, rated, rated_in_c}
 use Rattle.rates.specs.SumsLaws.{Accepted, accepted}
 use Rattle.rates.specs.RateLaws.{square_of, square_of-some, root_some, rate_at-most, rate_most, rate_above}
@@ -67,6 +67,32 @@ module _ (first second : List ℤ) (a : Accepted first) (b : Accepted second) (r
 abbrev pub answer : Result Judged Refusal → Bor (List ℤ) → ℕ × ℤ × Part
 answer (Ok judged) weeks8 = (0, judged.rate, part_of judged.figures)
 answer (Err refusal) weeks8 = (number_of refusal, pos 0, empty_of weeks8)
+
+-- ---- the refusals, in their order: 2 for a list too short or too long, whichever it is; then 8 for a figure out of range; else the larger rate
+
+module _ (weeks8 weeks104 : Bor (List ℤ)) where
+  pub short-first : length_ok weeks8.now ≡ false → rated weeks8 weeks104 ≡ (2, pos 0, empty_of weeks8)
+  unfolding rated refusal
+  short-first h = rw h
+
+  pub short-second : length_ok weeks104.now ≡ false → rated weeks8 weeks104 ≡ (2, pos 0, empty_of weeks8)
+  unfolding rated refusal
+  short-second h = rw (none (length_ok weeks8.now) (length_ok weeks104.now) h)
+
+  pub out_first : length_ok weeks8.now ≡ true → length_ok weeks104.now ≡ true → figures_ok weeks8.now ≡ false
+      → rated weeks8 weeks104 ≡ (8, pos 0, empty_of weeks8)
+  unfolding rated refusal
+  out_first h i j = rw (h, i, j)
+
+  pub out_second : length_ok weeks8.now ≡ true → length_ok weeks104.now ≡ true → figures_ok weeks104.now ≡ false
+      → rated weeks8 weeks104 ≡ (8, pos 0, empty_of weeks8)
+  unfolding rated refusal
+  out_second h i j = rw (h, i, none (figures_ok weeks8.now) (figures_ok weeks104.now) j)
+
+  pub taken : length_ok weeks8.now ≡ true → length_ok weeks104.now ≡ true → figures_ok weeks8.now ≡ true → figures_ok weeks104.now ≡ true
+      → rated weeks8 weeks104 ≡ (0, pos (window_rate (governs weeks8 weeks104).now), part_of (governs weeks8 weeks104))
+  unfolding rated refusal
+  taken h i j k = rw (h, i, j, k)
 
 -- ---- the answer of the call by what the windows come to
 
