@@ -1,6 +1,6 @@
 // A page of bytes that are lent: what is said stands on it from its start on, one piece behind another. What has no room is cut, so that nobody has to
 // ask for any.
-ghost use Rattle.std.specs.Prelude.{◌≡◌, ◌↔◌, [], ◌+◌, ◌≤◌, length, IsOk};
+ghost use Rattle.std.specs.Prelude.{◌≡◌, ◌↔◌, [], ◌+◌, ◌≤◌, ◌++◌, length, take, IsOk};
 
 use std::fmt;
 
@@ -29,11 +29,12 @@ impl<'a> Page<'a> {
         &self.out[..self.size]
     }
 
-    // Bytes as they are; an error where not all of them have room.
+    // Bytes as they are, as many as have room; an error where that is not all of them.
     pub fn put(&mut self, bytes: &[u8]) -> fmt::Result
         ensures ok { IsOk result → Appends self.old bytes.now self.new }
         ensures fits { IsOk result ↔ (length (written self.old) + length bytes.now ≤ room self.old) }
         ensures room { room self.new ≡ room self.old }
+        ensures written { written self.new ≡ take (room self.old) (written self.old ++ bytes.now) }
     {
         let kept = bytes.len().min(self.out.len() - self.size);
         let end = self.size + kept;
