@@ -15,6 +15,29 @@ use Rattle.clauses.specs.declared.Clause.{Clause}
 use Rattle.clauses.specs.declared.Clause.TheVariants.{Heads, Accounts, Products, Length, House, Phase, ProductKind, Mark, Price, Pair, Kind, Guarantee, Cap, Margin, Gross, Lots, Book, Balance, Done, ToCome}
 use Rattle.clauses.specs.declared.Failing.{Failing}
 
+-- ---- the clauses' numbers
+abbrev pub number_of : Clause → ℕ
+number_of Heads = 1
+number_of Accounts = 2
+number_of Products = 3
+number_of Length = 4
+number_of House = 5
+number_of Phase = 6
+number_of ProductKind = 7
+number_of Mark = 8
+number_of Price = 9
+number_of Pair = 10
+number_of Kind = 11
+number_of Guarantee = 12
+number_of Cap = 13
+number_of Margin = 14
+number_of Gross = 15
+number_of Lots = 16
+number_of Book = 17
+number_of Balance = 18
+number_of Done = 19
+number_of ToCome = 20
+
 -- ---- what is found
 -- a clause, of which account and which product (0 where it is of none), and the figure that fails it: the word itself, of a balance the sum of the lots,
 -- and 0 of a clause on the list's length or on several words

@@ -11,7 +11,7 @@ ghost use Rattle.places.specs.ByAccount.{by_account};
 ghost use Rattle.places.specs.Act.{most_accounts, most_products};
 ghost use Rattle.soundness.specs.Sound as S;
 ghost use Rattle.clauses.specs.Clauses as F;
-ghost use Rattle.clauses.specs.Clauses.{FirstOf};
+ghost use Rattle.clauses.specs.Clauses.{FirstOf, number_of};
 ghost use Rattle.clauses.specs.declared.Clause as Clause;
 
 use places::Shape;
@@ -46,6 +46,35 @@ pub enum Clause {
     // a run that is on:
     Done = 19,
     ToCome = 20,
+}
+
+impl Clause {
+    pub fn number(self) -> u64
+        ensures { result ≡ number_of self }
+    {
+        match self {
+            Clause::Heads => 1,
+            Clause::Accounts => 2,
+            Clause::Products => 3,
+            Clause::Length => 4,
+            Clause::House => 5,
+            Clause::Phase => 6,
+            Clause::ProductKind => 7,
+            Clause::Mark => 8,
+            Clause::Price => 9,
+            Clause::Pair => 10,
+            Clause::Kind => 11,
+            Clause::Guarantee => 12,
+            Clause::Cap => 13,
+            Clause::Margin => 14,
+            Clause::Gross => 15,
+            Clause::Lots => 16,
+            Clause::Book => 17,
+            Clause::Balance => 18,
+            Clause::Done => 19,
+            Clause::ToCome => 20,
+        }
+    }
 }
 
 // A clause that fails, of which account and which product (0 where it is of none), and the figure that fails it: the word itself, of a balance
