@@ -214,7 +214,8 @@ fn say_refusal(page: &mut Page, day: Day, number: usize, refusal: Refusal) -> fm
     page.write_str("\n")
 }
 
-// What is said of a call, by its reply, if it was refused; and the stage behind it.
+// What is said of a call, by its reply, if it was refused for a reason that has words; and the stage behind it, which only a call that was not refused
+// moves on.
 fn say_call(
     page: &mut Page,
     day: Day,
@@ -226,8 +227,11 @@ fn say_call(
     let Ok(call) = Call::try_from(lines::byte_at(line, 0)) else {
         return Ok(stage);
     };
-    let Ok(reason) = Reason::try_from(reply.number) else {
+    if reply.number == 0 {
         return Ok(stage.after(call));
+    }
+    let Ok(reason) = Reason::try_from(reply.number) else {
+        return Ok(stage);
     };
     let refusal = Refusal {
         line,
