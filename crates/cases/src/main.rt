@@ -12,7 +12,7 @@ mod windows; // margin rates from price history
 mod tellers; // the teller's window
 mod sheets; // the sheet of a text
 
-ghost use Rattle.std.specs.Prelude.{◌<◌, ◌≤◌, length, IfOk};
+ghost use Rattle.std.specs.Prelude.{◌≤◌, length, IfOk};
 
 use kinds::Kind;
 use lines::LONGEST;
@@ -25,17 +25,6 @@ use std::io::Read;
 struct Count {
     cases: u64,
     wrong: u64,
-}
-
-// The place behind the line at a place.
-fn line_end(text: &[u8], at: usize) -> usize
-    requires { at < length text.now }
-    ensures { (at < result) × (result ≤ length text.now) }
-{
-    text[at..]
-        .iter()
-        .position(|b| *b == b'\n')
-        .map_or(text.len(), |i| at + i + 1)
 }
 
 // Whether a case comes out as its line says. Places of a longer line would not be told from LOST.
@@ -54,18 +43,13 @@ fn agrees(line: &[u8], kind: Kind) -> bool {
     }
 }
 
-// A loop over places: slices have no `split_inclusive` yet.
 fn counted(text: &[u8], kind: Kind) -> Count {
-    let mut at = 0;
     let mut count = Count { cases: 0, wrong: 0 };
-    while at < text.len() {
-        let end = line_end(text, at);
-        let line = &text[at..end];
+    for line in text.split_inclusive(|b| *b == b'\n') {
         if Kind::of(line) == Some(kind) {
-            count.cases += 1;
-            count.wrong += u64::from(!agrees(line, kind));
+            count.cases = count.cases.saturating_add(1);
+            count.wrong = count.wrong.saturating_add(u64::from(!agrees(line, kind)));
         }
-        at = end;
     }
     count
 }
