@@ -71,15 +71,16 @@ fn told(rt: &impl Print, name: &[u8], tally: Tally) -> io::Result<Tally> {
 
 // ---- the cases that are read
 
-// Whether a case gives something else than expected: its lines, behind those that every text of its kind begins with.
-fn case_differs(kind: &[u8], case: &[u8]) -> Result<bool, fmt::Error> {
+// Whether a case gives something else than expected: its lines, behind those that the texts of its kind begin with up to it.
+fn case_differs(top: &mut Page, case: &[u8]) -> Result<bool, fmt::Error> {
     let mut text = [0u8; 4096];
     let mut sheet = [0u8; 4096];
     let mut words = [0u8; 4096];
     let mut text = Page::new(&mut text);
     let mut sheet = Page::new(&mut sheet);
     let mut words = Page::new(&mut words);
-    cases::put_marked(&mut text, kind, b'*', b"\n")?;
+    cases::put_marked(top, case, b'*', b"\n")?;
+    text.put(top.bytes())?;
     cases::put_marked(&mut text, case, b'>', b"\n")?;
     cases::put_marked(&mut text, case, b'|', b"")?;
     cases::put_marked(&mut sheet, case, b'<', b"\n")?;
@@ -90,22 +91,32 @@ fn case_differs(kind: &[u8], case: &[u8]) -> Result<bool, fmt::Error> {
 // The cases of a kind. One that has no room differs.
 fn cases_of(kind: &[u8]) -> Tally {
     let mut tally = Tally::default();
+    let mut top = [0u8; 4096];
+    let mut top = Page::new(&mut top);
     let mut rest = kind;
     while let Some((case, end)) = cases::split_before(rest, b'.') {
-        tally.count(case_differs(kind, case).unwrap_or(true));
+        tally.count(case_differs(&mut top, case).unwrap_or(true));
         rest = end;
     }
     tally
 }
 
-// Every kind of the file: its name, and its cases.
+// The kind that a file starts with: its name, and its cases.
+fn first_kind(rt: &impl Print, file: &[u8]) -> io::Result<Tally> {
+    let (kind, _) = cases::split_before(file, b'=').unwrap_or((file, &[]));
+    let title = kind.split(|b| *b == b'\n').next().unwrap_or(&[]);
+    told(rt, cases::behind_mark(title), cases_of(kind))
+}
+
+// Every kind of the file.
 fn kinds(rt: &impl Print, file: &[u8]) -> io::Result<Tally> {
     let mut all = Tally::default();
+    if file.first() == Some(&b'=') {
+        all += first_kind(rt, file)?;
+    }
     let mut rest = file;
     while let Some((_, kinds)) = cases::split_before(rest, b'=') {
-        let (kind, _) = cases::split_before(kinds, b'=').unwrap_or((kinds, &[]));
-        let title = kind.split(|b| *b == b'\n').next().unwrap_or(&[]);
-        all += told(rt, cases::behind_mark(title), cases_of(kind))?;
+        all += first_kind(rt, kinds)?;
         rest = kinds;
     }
     Ok(all)
