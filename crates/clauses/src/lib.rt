@@ -21,31 +21,31 @@ use rules::Account;
 #[derive(Clone, Copy, PartialEq, Eq)]
 pub enum Clause {
     // The list:
-    Heads = 1,
-    Accounts = 2,
-    Products = 3,
-    Length = 4,
+    Heads,
+    Accounts,
+    Products,
+    Length,
     // the head:
-    House = 5,
-    Phase = 6,
+    House,
+    Phase,
     // a product:
-    ProductKind = 7,
-    Mark = 8,
-    Price = 9,
-    Pair = 10,
+    ProductKind,
+    Mark,
+    Price,
+    Pair,
     // an account:
-    Kind = 11,
-    Guarantee = 12,
-    Cap = 13,
-    Margin = 14,
-    Gross = 15,
+    Kind,
+    Guarantee,
+    Cap,
+    Margin,
+    Gross,
     // a position, and a product's positions together:
-    Lots = 16,
-    Book = 17,
-    Balance = 18,
+    Lots,
+    Book,
+    Balance,
     // a run that is on:
-    Done = 19,
-    ToCome = 20,
+    Done,
+    ToCome,
 }
 
 impl Clause {
