@@ -21,14 +21,26 @@ pub fn behind_mark(line: &[u8]) -> &[u8] {
     line.get(2..).unwrap_or(&[])
 }
 
+// Room for each text of a case.
+pub const ROOM: usize = 4096;
+
+// A piece of a text, where it has room whole. Where it has none it is left out, and the page is full: bytes of 0 stand where room is left.
+fn put_piece(page: &mut Page, piece: &[u8]) -> fmt::Result {
+    let left = ROOM.saturating_sub(page.bytes().len());
+    if piece.len() > left {
+        return page.put(&[0u8; ROOM][..left]);
+    }
+    page.put(piece)
+}
+
 // The same of every line with a mark, one behind another, each with what closes it.
 pub fn put_marked(page: &mut Page, lines: &[u8], mark: u8, close: &[u8]) -> fmt::Result {
     for line in lines
         .split(|b| *b == b'\n')
         .filter(|line| line.first() == Some(&mark))
     {
-        page.put(behind_mark(line))?;
-        page.put(close)?;
+        put_piece(page, behind_mark(line))?;
+        put_piece(page, close)?;
     }
     Ok(())
 }

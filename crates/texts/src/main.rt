@@ -71,11 +71,14 @@ fn told(rt: &impl Print, name: &[u8], tally: Tally) -> io::Result<Tally> {
 
 // ---- the cases that are read
 
+// What stands for a kind's name that is longer than this.
+const NO_ROOM: [u8; 128] = [0; 128];
+
 // Whether a case gives something else than expected: its lines, behind those that the texts of its kind begin with up to it.
 fn case_differs(top: &mut Page, case: &[u8]) -> Result<bool, fmt::Error> {
-    let mut text = [0u8; 4096];
-    let mut sheet = [0u8; 4096];
-    let mut words = [0u8; 4096];
+    let mut text = [0u8; cases::ROOM];
+    let mut sheet = [0u8; cases::ROOM];
+    let mut words = [0u8; cases::ROOM];
     let mut text = Page::new(&mut text);
     let mut sheet = Page::new(&mut sheet);
     let mut words = Page::new(&mut words);
@@ -88,10 +91,10 @@ fn case_differs(top: &mut Page, case: &[u8]) -> Result<bool, fmt::Error> {
     Ok(gives_otherwise(text.bytes(), sheet.bytes(), words.bytes()))
 }
 
-// The cases of a kind. One that has no room differs.
+// The cases of a kind.
 fn cases_of(kind: &[u8]) -> Tally {
     let mut tally = Tally::default();
-    let mut top = [0u8; 4096];
+    let mut top = [0u8; cases::ROOM];
     let mut top = Page::new(&mut top);
     let mut rest = kind;
     while let Some((case, end)) = cases::split_before(rest, b'.') {
@@ -101,11 +104,20 @@ fn cases_of(kind: &[u8]) -> Tally {
     tally
 }
 
+// The name in a kind's first line; bytes of 0 stand for one that has no room.
+fn name_of(title: &[u8]) -> &[u8] {
+    let name = cases::behind_mark(title);
+    if name.len() > NO_ROOM.len() {
+        return &NO_ROOM;
+    }
+    name
+}
+
 // The kind that a file starts with: its name, and its cases.
 fn first_kind(rt: &impl Print, file: &[u8]) -> io::Result<Tally> {
     let (kind, _) = cases::split_before(file, b'=').unwrap_or((file, &[]));
     let title = kind.split(|b| *b == b'\n').next().unwrap_or(&[]);
-    told(rt, cases::behind_mark(title), cases_of(kind))
+    told(rt, name_of(title), cases_of(kind))
 }
 
 // Every kind of the file.
