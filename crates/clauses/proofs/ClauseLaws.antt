@@ -115,6 +115,10 @@ pub shape-none : (W : List ℤ) (s : Shape) → is_none (of_shape W s) ≡ shape
 shape-none W s =
     after true (ltb 0 s.n) _ _ refl ∙ after (ltb 0 s.n) (ltb 0 s.p) _ _ refl ∙ last (ltb 0 s.n && ltb 0 s.p) (eqb (length W) (words_of s)) _ refl
 
+-- the last two clauses, by the turn
+pub run-idle : (s : Shape) (g : View) → turn g ≡ 0 → of_run s g ≡ none
+run-idle s g e = rw e
+
 -- ---- all of it, where the list is long enough for a head and where it is not
 pub too_few : (L : Layout) (W : List ℤ) → leb heads (length W) ≡ false → first_failing L W ≡ fails Heads 0 0 (pos 0)
 unfolding first_failing
