@@ -1,9 +1,9 @@
--- Laws of calls, of counts and of a close's columns. Assumes nothing.
+-- Laws of calls, of counts, of marks and of a close's columns. Assumes nothing.
 use mathlib.Core.Path.{◌≡◌, refl, subst}
 use mathlib.Core.Bool.{Bool, true, false, cond}
 use mathlib.Core.List.{List, ◌∷◌}
 use Prim.Native.Nat.{ℕ, zero, suc, ◌+◌, ◌*◌, ◌-◌, ◌≤◌, ◌<◌, zero-le}
-use native.Mathlib.Nat.{not-suc-le-zero, lt_of_not-le}
+use native.Mathlib.Nat.{not-suc-le-zero, mul-le-mul, lt_of_not-le}
 use native.Mathlib.Omega.{arith}
 use borrow.Author.Tests.{ltb-false}
 use lib.Dec.{ltb}
@@ -11,10 +11,17 @@ use lib.IntN.{ℤ, pos, negsuc}
 use lib.ListN.{length, drop, get_or, get_or-eq_default}
 use lib.Seq.{get_or-drop, drop-drop}
 use Rattle.whole.specs.Counting.{figure_at}
-use Rattle.dayfile.specs.CallLines.{figures_of, most_figures, column}
+use Rattle.places.specs.declared.Shape.{Shape}
+use Rattle.places.specs.Act.{most_accounts, most_products, most_held}
+use Rattle.lines.specs.Bytes.{bytes}
+use Rattle.dayfile.specs.CallLines.{gap, figures_of, most_figures, column}
 use Rattle.dayfile.specs.Table.{no_count, count_of}
 
 -- ---- calls
+pub gap_more : (k : ℕ) → (k ≡ 0 → ⊥) → bytes " " ≡ gap k
+gap_more zero h = absurd (h refl)
+gap_more (suc k) h = refl
+
 -- a byte that begins a call is a byte of the text
 no_call : (p : ℕ) → figures_of p 0 ≤ most_figures → ⊥
 unfolding figures_of
@@ -33,6 +40,10 @@ count_most low high next (pos m) = count_cases (ltb m low) (ltb high m) refl
     count_cases false true e = zero-le
     count_cases false false e = ltb-false high m e
 count_most low high next (negsuc m) = zero-le
+
+-- ---- marks: each position of a ledger has its own
+pub mark-inside : (s : Shape) (a j : ℕ) → s.n ≤ most_accounts → s.p ≤ most_products → a < s.n → j < s.p → a * s.p + j < most_held
+mark-inside s a j hn hp ha hj = omega (arith, mul-le-mul {n₁ = a} {m₁ = s.p} {n₂ = most_accounts - 1} {m₂ = most_products} (omega arith) hp)
 
 -- ---- a close's columns
 pub column-more : (v : List ℤ) (k j left : ℕ) → 0 < left → column k left (drop (j * 4) v) ≡ figure_at v (j * 4 + k) ∷ column k (left - 1) (drop ((j + 1) * 4) v)

@@ -1,7 +1,7 @@
 -- A loop over the lines of a section: one law for every line reader. Assumes nothing.
 use mathlib.Core.Path.{◌≡◌, refl, sym, ◌∙◌, ap}
 use mathlib.Core.Bool.{cond}
-use Prim.Native.Nat.{ℕ, zero, suc, ◌+◌, ◌-◌, ◌≤◌, ◌<◌}
+use Prim.Native.Nat.{ℕ, zero, suc, ◌+◌, ◌-◌, ◌≤◌, ◌<◌, zero-le}
 use native.Mathlib.Omega.{arith}
 use native.Mathlib.Nat.{not-suc-le-zero}
 use lib.Dec.{eqb}
@@ -19,6 +19,9 @@ module _ {M : Type 0} (read : ℕ → ℕ → M → Line M) where
     pub low : i ≤ count
     pub grown : s.line ≡ s₀.line + i
     pub goes : lines read count 0 s₀ ≡ lines read (count - i) i s
+
+  pub onward-none : (count : ℕ) (s : Stand M) → Onward count s 0 s
+  onward-none count s = record { low = zero-le; grown = omega arith; goes = let e : count - 0 ≡ count = omega arith in rw e }
 
   pub onward-more : {count : ℕ} {s₀ : Stand M} {i : ℕ} {s : Stand M} → Onward count s₀ i s → i < count → (l : Line M) → l ≡ read i s.at s.held → (l.next ≡ lost → ⊥) → Onward count s₀ (i + 1) (record { at = l.next; line = s₀.line + (i + 1); held = l.held })
   onward-more {count} {s₀} {i} {s} o h l e n =

@@ -1,12 +1,13 @@
 -- What is written piece by piece is written whole: one law for every loop and every row of calls that prints. Assumes nothing.
 use mathlib.Core.Path.{◌≡◌, refl, sym, ◌∙◌, ap}
 use mathlib.Core.List.{List, [], ◌∷◌, ◌++◌, append_assoc}
-use Prim.Native.Nat.{ℕ, suc, ◌+◌, ◌-◌, ◌≤◌}
+use Prim.Native.Nat.{ℕ, suc, ◌+◌, ◌-◌, ◌≤◌, ◌<◌}
+use native.Mathlib.Numerals.{add-one}
 use native.Mathlib.Nat.{add-zero, add-suc, suc-add}
 use native.Mathlib.Omega.{arith}
-use lib.ListN.{length, take, drop, set, length-append}
+use lib.ListN.{length, take, drop, get_or, set, length-append}
 use borrow.Rule.Slice.PartMut.{put_mid, Post-is}
-use lib.Seq.{sets, sets-eq, length-sets, take_at}
+use lib.Seq.{sets, sets-eq, length-sets, drop-cons, take_at}
 
 pub sets_append : {X : Type 0} (l : List X) (i : ℕ) (a b : List X) → sets (sets l i a) (i + length a) b ≡ sets l i (a ++ b)
 sets_append l i [] b = rw (add-zero i)
@@ -34,6 +35,10 @@ module _ {out₀ : List ℕ} {from : ℕ} {whole : List ℕ} {out : List ℕ} {a
   pub wrote_done : rest ≡ [] → (at ≡ from + length whole) × (out ≡ sets out₀ from whole)
   wrote_done e =
       (sym (w.ends ∙ ap (λ (l : List ℕ). at + length l) e ∙ add-zero at), sym (w.held ∙ ap (λ (l : List ℕ). sets out at l) e))
+
+-- a word, byte by byte
+pub word_more : (l w : List ℕ) (at i : ℕ) → i < length w → sets l (at + i) (drop i w) ≡ sets (set l (at + i) (get_or w i 0)) (at + (i + 1)) (drop (i + 1) w)
+word_more l w at i h = let e : at + (i + 1) ≡ suc (at + i) = omega arith in rw (e, drop-cons w i 0 h, add-one i) refl
 
 -- a copy over a part of a list is as many stores in a row
 pub put_mid-sets : (l copied w : List ℕ) (at : ℕ) → copied ≡ w → at + length w ≤ length l → put_mid at (at + length w - at) l copied ≡ sets l at w

@@ -1,7 +1,7 @@
 -- A window that is accepted, and what one pass over it leaves: the figures added up and their squares, small enough for a word at every turn. Words for contracts
 -- behind the call. Assumes nothing.
-use Rattle.std.specs.Prelude.{◌≡◌, ◌+◌, Option, Some, None, Bool, true, false, cond, List, ℕ, ◌*◌, ◌≤◌, ◌<◌, leb, ℤ, pos, nat_abs, ◌+ℤ◌, ◌-ℤ◌, ◌*ℤ◌, length, ◌≤ℤ◌}
-use Rattle.std.proofs.Common.{sym, subst, add-one, ⊎_elim, arith, SFits, to_z, of_z, leb-true}
+use Rattle.std.specs.Prelude.{◌≡◌, ◌+◌, Option, Some, None, is_some, Bool, true, false, cond, List, ℕ, ◌*◌, ◌≤◌, ◌<◌, leb, ℤ, pos, nat_abs, ◌+ℤ◌, ◌-ℤ◌, ◌*ℤ◌, length, ◌≤ℤ◌}
+use Rattle.std.proofs.Common.{sym, ap, ◌∙◌, subst, add-one, ⊎_elim, arith, SFits, to_z, of_z, leb-true}
 use Rattle.std.specs.Int.{w64}
 use Rattle.std.proofs.lemmas.Option.{cond_some, none-some}
 use Rattle.whole.specs.Number.{within}
@@ -51,6 +51,10 @@ pub to_out : (window : List ℤ) (n : ℕ) → all n (in_range window) ≡ false
 unfolding sums_to
 to_out window n e = rw e
 
+-- some are left exactly where all figures are in range
+pub sums_ok : (window : List ℤ) (n : ℕ) → is_some (sums_to window n) ≡ all n (in_range window)
+sums_ok window n = ⊎_elim (λ e. ap is_some (to_in window n e) ∙ sym e) (λ e. ap is_some (to_out window n e) ∙ sym e) (true_or_false (all n (in_range window)))
+
 -- sums that are left are those of figures in range
 pub left : (window : List ℤ) (n : ℕ) (s : Sums) → Some s ≡ sums_to window n → (all n (in_range window) ≡ true) × (added_to window n ≡ s)
 unfolding sums_to
@@ -84,6 +88,10 @@ ended window n m h e =
     (λ t. absurd (none-some (added_to window n) (sym (rw t at e))))
     (λ o. rw (is_false (all m (in_range window)) (λ t. clash (all-is n (in_range window) (λ i b. all-at m (in_range window) t i (omega arith))) o)))
     (true_or_false (all n (in_range window)))
+
+-- once out of range, always
+pub stays_out : (window : List ℤ) (n m : ℕ) → n ≤ m → is_some (sums_to window n) ≡ false → sums_to window n ≡ sums_to window m
+stays_out window n m h e = let o = to_out window n (sym (sums_ok window n) ∙ e) in o ∙ sym (ended window n m h o)
 
 -- ---- sizes, of the first n figures where these are in range: a word has each sum, and takes one figure more
 
