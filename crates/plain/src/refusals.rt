@@ -3,7 +3,7 @@
 use super::sections::Section;
 use super::{Day, ranges};
 use faults::page::Page;
-use rules::sizes;
+use rules::{Refusal, sizes};
 use std::fmt;
 use std::fmt::Write;
 
@@ -31,45 +31,6 @@ impl TryFrom<u8> for Call {
             b'S' => Ok(Call::Step),
             b'T' => Ok(Call::Trade),
             b'C' => Ok(Call::Close),
-            other => Err(other),
-        }
-    }
-}
-
-// Why a call is refused: an account or product that there is not; an amount; whose the accounts are; the phase; a figure of a trade or a close; what
-// would pass its range: a position, what an account holds, the limit, what another account holds, the house.
-#[derive(Clone, Copy)]
-enum Reason {
-    NoAccount,
-    NoProduct,
-    Amount,
-    Whose,
-    Phase,
-    Figure,
-    Position,
-    Gross,
-    Limit,
-    GrossOf,
-    House,
-}
-
-// By the number of a reply; 0 is the number of a call that was not refused.
-impl TryFrom<i64> for Reason {
-    type Error = i64;
-
-    fn try_from(number: i64) -> Result<Reason, i64> {
-        match number {
-            3 => Ok(Reason::NoAccount),
-            4 => Ok(Reason::NoProduct),
-            5 => Ok(Reason::Amount),
-            6 => Ok(Reason::Whose),
-            7 => Ok(Reason::Phase),
-            8 => Ok(Reason::Figure),
-            9 => Ok(Reason::Position),
-            10 => Ok(Reason::Gross),
-            11 => Ok(Reason::Limit),
-            12 => Ok(Reason::GrossOf),
-            13 => Ok(Reason::House),
             other => Err(other),
         }
     }
@@ -109,6 +70,24 @@ impl Reply {
         Reply {
             number: number.value,
             figure: lines::field_at(line, number.next, b'\n').value,
+        }
+    }
+
+    // Why the call was refused: nothing where it was not. 1 and 2 are answered to no call of a day.
+    fn refusal(self) -> Option<Refusal> {
+        match self.number {
+            3 => Some(Refusal::NoSuchAccount),
+            4 => Some(Refusal::NoSuchProduct),
+            5 => Some(Refusal::Amount),
+            6 => Some(Refusal::WrongKind),
+            7 => Some(Refusal::WrongPhase),
+            8 => Some(Refusal::OutOfRange),
+            9 => Some(Refusal::PositionTooLarge),
+            10 => Some(Refusal::GrossTooLarge),
+            11 => Some(Refusal::AboveLimit(self.figure)),
+            12 => Some(Refusal::AccountTooLarge(self.figure)),
+            13 => Some(Refusal::HouseTooLarge),
+            _ => None,
         }
     }
 }
@@ -166,51 +145,54 @@ fn say_position(page: &mut Page) -> fmt::Result {
 
 // A refused call: its line, what it is by its letter, where in the run it stands, and why it was refused.
 #[derive(Clone, Copy)]
-struct Refusal<'a> {
+struct RefusedCall<'a> {
     line: &'a [u8],
     call: Call,
     stage: Stage,
-    reason: Reason,
-    reply: Reply,
+    reason: Refusal,
+    number: i64,
 }
 
 // The reason of a refusal.
-fn say_reason(page: &mut Page, day: Day, refusal: Refusal) -> fmt::Result {
+fn say_reason(page: &mut Page, day: Day, refused: RefusedCall) -> fmt::Result {
     let n = day.contents.accounts;
     let last_account = n.saturating_sub(1);
     let last_product = day.contents.products.saturating_sub(1);
     let gross = sizes::MOST_GROSS;
     let house = sizes::MOST_HOUSE;
-    let figure = refusal.reply.figure;
-    match refusal.reason {
-        Reason::NoAccount => write!(page, "no such account: they are 0 to {last_account}"),
-        Reason::NoProduct => write!(page, "no such product: they are 0 to {last_product}"),
-        Reason::Amount => say_amount(page, refusal.call),
-        Reason::Whose => page.write_str(whose(refusal.call)),
-        Reason::Phase => say_phase(page, refusal.call, n, refusal.stage),
-        Reason::Figure => ranges::say_first(page, day, refusal.line),
-        Reason::Position => say_position(page),
-        Reason::Gross => write!(
+    match refused.reason {
+        Refusal::Unsound | Refusal::Lists => Ok(()),
+        Refusal::NoSuchAccount => write!(page, "no such account: they are 0 to {last_account}"),
+        Refusal::NoSuchProduct => write!(page, "no such product: they are 0 to {last_product}"),
+        Refusal::Amount => say_amount(page, refused.call),
+        Refusal::WrongKind => page.write_str(whose(refused.call)),
+        Refusal::WrongPhase => say_phase(page, refused.call, n, refused.stage),
+        Refusal::OutOfRange => ranges::say_first(page, day, refused.line),
+        Refusal::PositionTooLarge => say_position(page),
+        Refusal::GrossTooLarge => write!(
             page,
             "cash and dues, without their signs, would add to more than {gross}"
         ),
-        Reason::Limit => write!(page, "above the limit of {figure}"),
-        Reason::GrossOf => write!(
+        Refusal::AboveLimit(limit) => write!(page, "above the limit of {limit}"),
+        Refusal::AccountTooLarge(account) => write!(
             page,
-            "cash and dues, without their signs, of account {figure} would add to more than {gross}"
+            "cash and dues, without their signs, of account {account} would add to more than {gross}"
         ),
-        Reason::House => write!(page, "house would pass {house} above or below 0 on the way"),
+        Refusal::HouseTooLarge => write!(
+            page,
+            "house would pass {house} above or below 0 on the way"
+        ),
     }
 }
 
 // ---- the calls
 
 // What is said of a refused call: `line 18: W 1 50000 refused, 11: above the limit of 0`
-fn say_refusal(page: &mut Page, day: Day, number: usize, refusal: Refusal) -> fmt::Result {
+fn say_refusal(page: &mut Page, day: Day, number: usize, refused: RefusedCall) -> fmt::Result {
     write!(page, "line {number}: ")?;
-    page.put(refusal.line.strip_suffix(b"\n").unwrap_or(refusal.line))?;
-    write!(page, " refused, {}: ", refusal.reply.number)?;
-    say_reason(page, day, refusal)?;
+    page.put(refused.line.strip_suffix(b"\n").unwrap_or(refused.line))?;
+    write!(page, " refused, {}: ", refused.number)?;
+    say_reason(page, day, refused)?;
     page.write_str("\n")
 }
 
@@ -230,17 +212,17 @@ fn say_call(
     if reply.number == 0 {
         return Ok(stage.after(call));
     }
-    let Ok(reason) = Reason::try_from(reply.number) else {
+    let Some(reason) = reply.refusal() else {
         return Ok(stage);
     };
-    let refusal = Refusal {
+    let refused = RefusedCall {
         line,
         call,
         stage,
         reason,
-        reply,
+        number: reply.number,
     };
-    say_refusal(page, day, number, refusal)?;
+    say_refusal(page, day, number, refused)?;
     Ok(stage)
 }
 
