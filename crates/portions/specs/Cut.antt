@@ -113,6 +113,11 @@ module _ {n : ℕ} {r : ℕ → ℕ} {yen : ℕ} where
 unfoldable pub many_above : ℕ → (ℕ → ℕ) → ℕ → ℕ
 many_above to r x = how_many to (λ j. ltb x (r j))
 
+-- a loop's turn: the next member is counted
+pub above_step : (j : ℕ) (r : ℕ → ℕ) (x from many v : ℕ) → from + many ≡ many_above j r x → v ≡ one_if (ltb x (r j)) → from + (many + v) ≡ many_above (j + 1) r x
+unfolding many_above
+above_step j r x from many v e q = rw add-one (omega arith)
+
 -- a count of the first k remainders of a list, and one of all others
 pub many_listed : (x : ℕ) (l : List ℕ) (k : ℕ) → k ≤ length l → count_by (ltb x) (take k l) ≡ many_above k (of_member l) x
 unfolding many_above
