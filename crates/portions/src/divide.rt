@@ -8,17 +8,44 @@ pub struct Quot {
     pub remainder: u64,
 }
 
-// a * b / c in 128 bits, where b is at most c: the quotient is at most a.
+// One digit of 32 bits more of a long division by c, whose highest bit is set: what was left so far is taken 2^32 times, the digit is added, and the sum is
+// divided. What was left, divided by the upper half of c, is the quotient or, with so high a c, at most two more; these are taken off.
+fn divide_digit(left: u64, digit: u64, c: u64) -> Quot
+    requires left_in { left < c }
+    requires digit_in { digit < 2 ^ 32 }
+    requires highest_bit { 2 ^ 63 ≤ c }
+    ensures { (result.quotient * c + result.remainder ≡ left * 2 ^ 32 + digit) × (result.remainder < c) }
+{
+    let whole = u128::from(c);
+    let next = u128::from(left) * 0x1_0000_0000 + u128::from(digit);
+    let mut quotient = left / (c / 0x1_0000_0000);
+    while next < u128::from(quotient) * whole {
+        quotient -= 1;
+    }
+    Quot {
+        quotient,
+        remainder: (next - u128::from(quotient) * whole) as u64,
+    }
+}
+
+// a * b / c, where b is at most c: the quotient is at most a. The product has 128 bits. It is not divided by `/`: a division of 128 bits is a call of a
+// function that a library for C would need from outside. So it is a long division in two digits of 32 bits, each by a division of 64. For it b and c are
+// moved up until the highest bit of c is set: the quotient stays, and the remainder is moved down again.
 fn mul_div(a: u64, b: u64, c: u64) -> Quot
     requires part { b ≤ c }
     requires some { 0 < c }
     ensures { (result.quotient ≡ a * b / c) × (result.remainder ≡ a * b % c) }
 {
-    let product = u128::from(a) * u128::from(b);
-    let whole = u128::from(c);
+    let up = c.leading_zeros();
+    let whole = c << up;
+    let part = b << up;
+    let high = ((u128::from(a) * u128::from(part)) >> 64) as u64;
+    let low = a.wrapping_mul(part);
+    let upper = divide_digit(high, low / 0x1_0000_0000, whole);
+    let lower = divide_digit(upper.remainder, low % 0x1_0000_0000, whole);
     Quot {
-        quotient: (product / whole) as u64,
-        remainder: (product % whole) as u64,
+        quotient: upper.quotient * 0x1_0000_0000 + lower.quotient,
+        remainder: lower.remainder >> up,
     }
 }
 
