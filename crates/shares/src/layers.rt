@@ -70,13 +70,14 @@ impl Members<'_> {
         sum
     }
 
-    // Shares a layer of at most `most`, and says how large it is. There is room lent for the weights.
+    // Shares a layer of at most `most`, and says how large it is. There is room lent for the weights: they are left in `weights`.
     fn layer(self, most: u64, weights: &mut [u64], out: &mut [i64]) -> u64
         requires weights_long { length weights.old ≡ length self.figures.now }
         requires out_long { length out.old ≡ length self.figures.now }
         requires most_in { most ≤ L.most_loss }
         ensures value { result ≡ L.layer most self.entry.marks.now self.entry.figures.now }
         ensures out_after { out.new ≡ L.layer_shares most self.entry.marks.now self.entry.figures.now }
+        ensures weights_after { weights.new ≡ listed (length self.entry.figures.now) (L.weight self.entry.marks.now self.entry.figures.now) }
     {
         let sum = self.weigh(weights);
         let amount = most.min(sum);

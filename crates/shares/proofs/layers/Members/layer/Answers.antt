@@ -70,4 +70,4 @@ returns c =
     let s = c.args.self in
     let w = c.weigh-sum.ensures.weights_after in
     let a = amount-is (goal.at.returns c).After-min-amount in
-    record { value = a; out_after = shares-are s.marks.now s.figures.now _ w c.args.most _ _ a c.share.ensures }
+    record { value = a; out_after = shares-are s.marks.now s.figures.now _ w c.args.most _ _ a c.share.ensures; weights_after = w }
