@@ -31,20 +31,18 @@ module _ (m u a : ℕ) (h : 0 < u) (e : m % u ≡ 0) where
       let w : (m - suc a) / u ≡ k = ap (λ z. z / u) p ∙ v in
       omega arith
 
-abbrev moved_up : ℕ
-moved_up = 4000000000000000000
-
-abbrev lifted : ℤ → ℕ
-lifted raw = nat_abs (to_z w64 (of_z w64 (to_z w64 (of_z w64 raw) +ℤ pos moved_up)))
+-- raw moved up by m, as the code holds it
+abbrev lifted : ℤ → ℕ → ℕ
+lifted raw m = nat_abs (to_z w64 (of_z w64 (to_z w64 (of_z w64 raw) +ℤ pos m)))
 
 -- the sum fits
-sum-is : (raw : ℤ) → nat_abs raw ≤ moved_up → to_z w64 (of_z w64 (to_z w64 (of_z w64 raw) +ℤ pos moved_up)) ≡ raw +ℤ pos moved_up
-sum-is raw b = let l = leaf raw in by (search whole depth 20) (omega facts)
+sum-is : (raw : ℤ) (m : ℕ) → nat_abs raw ≤ m → m < 2 ^ 62 → to_z w64 (of_z w64 (to_z w64 (of_z w64 raw) +ℤ pos m)) ≡ raw +ℤ pos m
+sum-is raw m b s = let l = leaf raw in by (search whole depth 20) (omega facts)
 
-over : (a : ℕ) → suc a ≤ moved_up → negsuc a +ℤ pos moved_up ≡ pos (moved_up - suc a)
-over a b = by (search whole depth 20) (omega facts)
+over : (a m : ℕ) → suc a ≤ m → negsuc a +ℤ pos m ≡ pos (m - suc a)
+over a m b = by (search whole depth 20) (omega facts)
 
--- the quotient d, from which m is taken off again
+-- the quotient d, from which that of m is taken off again
 lowered : (d m : ℕ) → d < 2 ^ 63 → m < 2 ^ 63 → to_z w64 (of_z w64 (to_z w64 d -ℤ to_z w64 m)) ≡ pos d -ℤ pos m
 lowered d m h i = by (search whole depth 20) (omega facts)
 
@@ -54,16 +52,22 @@ past d m k e = by (search whole depth 20) (omega facts)
 short : (d m k : ℕ) → d + suc k ≡ m → pos d -ℤ pos m ≡ negsuc k
 short d m k e = by (search whole depth 20) (omega facts)
 
-pub floored : (raw : ℤ) (u : ℕ) → 0 < u → nat_abs raw ≤ moved_up → moved_up % u ≡ 0
-    → to_z w64 (of_z w64 (to_z w64 (lifted raw / u) -ℤ to_z w64 (moved_up / u))) ≡ floor_div raw u
+-- Of any number m of whole units u: it must be whole, and the units that are taken off must be its own.
+moved : (raw : ℤ) (u m : ℕ) → 0 < u → nat_abs raw ≤ m → m < 2 ^ 62 → m % u ≡ 0
+    → to_z w64 (of_z w64 (to_z w64 (lifted raw m / u) -ℤ to_z w64 (m / u))) ≡ floor_div raw u
 unfolding floor_div
-floored (pos a) u h b e =
-    let l : lifted (pos a) ≡ a + moved_up = ap nat_abs (sum-is (pos a) b) in
-    let q = ap (λ z. z / u) l ∙ above moved_up u a h e in
-    let d = div-le_self a u in let m = div-le_self moved_up u in
-    lowered (lifted (pos a) / u) (moved_up / u) (omega arith) (omega arith) ∙ past (lifted (pos a) / u) (moved_up / u) (a / u) q
-floored (negsuc a) u h b e =
-    let l : lifted (negsuc a) ≡ moved_up - suc a = ap nat_abs (sum-is (negsuc a) b ∙ over a b) in
-    let q = ap (λ z. z / u + suc (a / u)) l ∙ below moved_up u a h e (omega arith) in
-    let m = div-le_self moved_up u in
-    lowered (lifted (negsuc a) / u) (moved_up / u) (omega arith) (omega arith) ∙ short (lifted (negsuc a) / u) (moved_up / u) (a / u) q
+moved (pos a) u m h b s e =
+    let l : lifted (pos a) m ≡ a + m = ap nat_abs (sum-is (pos a) m b s) in
+    let q = ap (λ z. z / u) l ∙ above m u a h e in
+    let d = div-le_self a u in let f = div-le_self m u in
+    lowered (lifted (pos a) m / u) (m / u) (omega arith) (omega arith) ∙ past (lifted (pos a) m / u) (m / u) (a / u) q
+moved (negsuc a) u m h b s e =
+    let l : lifted (negsuc a) m ≡ m - suc a = ap nat_abs (sum-is (negsuc a) m b s ∙ over a m b) in
+    let q = ap (λ z. z / u + suc (a / u)) l ∙ below m u a h e (omega arith) in
+    let f = div-le_self m u in
+    lowered (lifted (negsuc a) m / u) (m / u) (omega arith) (omega arith) ∙ short (lifted (negsuc a) m / u) (m / u) (a / u) q
+
+-- n is what the code takes off again
+pub floored : (raw : ℤ) (u m n : ℕ) → 0 < u → nat_abs raw ≤ m → m < 2 ^ 62 → m % u ≡ 0 → n ≡ m
+    → to_z w64 (of_z w64 (to_z w64 (lifted raw m / u) -ℤ to_z w64 (n / u))) ≡ floor_div raw u
+floored raw u m n h b s e f = rw f (moved raw u m h b s e)
