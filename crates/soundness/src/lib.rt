@@ -122,6 +122,7 @@ fn shape_ok(words: &[i64], s: Shape) -> bool
 }
 
 // The shape of a sound ledger. The counts are tested before the length is computed.
+#[tactic(auto, unfolding(places::specs::Act::sound_by))]
 pub fn sound_shape(words: &[i64]) -> Option<Shape>
     ensures { result ≡ cond (S.sound by_account words.now) (Some (shape_of words.now)) None }
 {
