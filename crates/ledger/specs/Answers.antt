@@ -1,7 +1,8 @@
 -- How the functions behind the gate come by what their contracts say: a question puts nothing; a call on a record is its reply and its puts.
 -- Assumes nothing.
 use Rattle.std.specs.Prelude.{◌≡◌, refl, Bool, true, false, cond, ◌||◌, List, ℤ, nat_abs, ℕ, ◌<◌, Option, Some, None, Result, Ok, Err, IsErr, IsErrAnd}
-use Rattle.std.proofs.Common.{sym, ap, ◌∙◌, arith, eq-eqb, ne_eqb}
+use Rattle.std.proofs.Common.{sym, ap, ◌∙◌, arith, rules, eq-eqb, ne_eqb}
+use Rattle.std.proofs.lemmas.List.{set-get_or}
 use Rattle.std.proofs.lemmas.Option.{none-some, same_Some}
 use Rattle.whole.specs.Number.{is, is_one_of, unless}
 use Rattle.whole.specs.Tests.{in-range, is-one-of}
@@ -31,6 +32,12 @@ question-finish L s W a = go (is_one_of s.n a)
     go : (t : Bool) → ◌≡◌ {A = Standing × List ℤ} ((unless t (refuse_question 3) o).answer, W) (finish L s W (unless t (refuse_question 3) o))
     go true = refl
     go false = refl
+
+-- what is left after a call, X, is what was there, W, whatever was written between: a word that is put where it stood changes nothing
+pub words-left : {A : Type 0} (r : A) (W X : List ℤ) {z : A × List ℤ} → X ≡ W → (r, W) ≡ z → (r, X) ≡ z
+words-left r W X e h = ap (λ x. (r, x)) e ∙ h
+
+pub ruleset same_words = (rules, set-get_or)
 
 -- a call on a record that was taken, and one that was not
 module _ (L : Layout) (s : Shape) (W : List ℤ) (t : Taken) (us : List Put) (r : Reply) (e : r ≡ reply_of t) where
