@@ -1,9 +1,14 @@
--- `rules::accounts::gross_within` meets its contract: joined sizes below 2^61 are each below it, and sizes that come to at most 10^15 are so. Assumes nothing.
+-- `rules::accounts::gross_within` meets its contract: joined sizes below 2^61 are each below it, and sizes that come to at most 10^15 are so. The size of
+-- cash may be taken of its opposite too: that the opposite of the least number fits no word is left to the overflow. Assumes nothing.
 use Prim.Native.Nat.{ℕ, ◌+◌, ◌^◌, ◌≤◌, ◌<◌}
 use native.Mathlib.Nat.{lt_of_not-le}
 use native.Mathlib.Omega.{arith}
 use lib.Bits.{bit_or, or_lt, or_add_and, and_le_l, and_le_r}
+use lib.IntN.{nat_abs}
+use mathlib.Core.Path.{◌≡◌}
+use Rattle.std.proofs.lemmas.Int.{ints}
 use Rattle.whole.specs.Whole.{whole, facts, by}
+use Rattle.whole.proofs.Opposite.{opposite-size}
 use Rattle.rules.proofs.accounts.gross_within.Goals as goal
 
 abbrev four : ℕ → ℕ → ℕ → ℕ → ℕ
@@ -40,6 +45,7 @@ pub returns-then-cash_size-due0_size-ge2305843009213693952 : goal.returns-then-c
 returns-then-cash_size-due0_size-ge2305843009213693952 c =
     let d = c in
     let l = large d.unsigned_abs-cash_size.result d.unsigned_abs-due0_size.result d.unsigned_abs-due1_size.result d.unsigned_abs-due2_size.result c.if-cash_size-due0_size-ge2305843009213693952.true in
+    let size : d.unsigned_abs-cash_size.result ≡ nat_abs d.args.cash = rw d.unsigned_abs-cash_size.ensures.value (omega (arith, ints, opposite-size d.args.cash d.ranges.cash)) in
     by (search whole depth 20) (omega (facts, l))
 
 pub overflow_add-result : goal.overflow_add-result
@@ -50,3 +56,8 @@ overflow_add-result-2 c = let z = sizes c.unsigned_abs-cash_size.result c.unsign
 
 pub overflow_add-result-3 : goal.overflow_add-result-3
 overflow_add-result-3 c = let z = sizes c.unsigned_abs-cash_size.result c.unsigned_abs-due0_size.result c.unsigned_abs-due1_size.result c.unsigned_abs-due2_size.result c.if-cash_size-due0_size-ge2305843009213693952.false in omega arith
+
+pub returns : goal.returns
+returns c =
+    let size : c.unsigned_abs-cash_size.result ≡ nat_abs c.args.cash = rw c.unsigned_abs-cash_size.ensures.value (omega (arith, ints, opposite-size c.args.cash c.ranges.cash)) in
+    by (search whole depth 20) (omega facts)
