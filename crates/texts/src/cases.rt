@@ -16,11 +16,6 @@ pub fn split_before(file: &[u8], mark: u8) -> Option<(&[u8], &[u8])>
     Some(file.split_at(feed + 1))
 }
 
-// What stands in a line behind its mark and a space.
-pub fn behind_mark(line: &[u8]) -> &[u8] {
-    line.get(2..).unwrap_or(&[])
-}
-
 // Room for each text of a case.
 pub const ROOM: usize = 4096;
 
@@ -31,6 +26,11 @@ fn put_piece(page: &mut Page, piece: &[u8]) -> fmt::Result {
         return page.put(&[0u8; ROOM][..left]);
     }
     page.put(piece)
+}
+
+// What stands in a line behind its mark and a space.
+pub fn behind_mark(line: &[u8]) -> &[u8] {
+    line.get(2..).unwrap_or(&[])
 }
 
 // The same of every line with a mark, one behind another, each with what closes it.
