@@ -39,8 +39,9 @@ fn mul_div(a: u64, b: u64, c: u64) -> Quot
     let up = c.leading_zeros();
     let whole = c << up;
     let part = b << up;
-    let high = ((u128::from(a) * u128::from(part)) >> 64) as u64;
-    let low = a.wrapping_mul(part);
+    let product = u128::from(a) * u128::from(part);
+    let high = (product >> 64) as u64;
+    let low = (product % 0x1_0000_0000_0000_0000) as u64;
     let upper = divide_digit(high, low / 0x1_0000_0000, whole);
     let lower = divide_digit(upper.remainder, low % 0x1_0000_0000, whole);
     Quot {

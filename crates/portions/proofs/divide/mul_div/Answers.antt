@@ -81,8 +81,8 @@ digits c =
     let w = c.args.c * 2 ^ count_leading_zeros 64 c.args.c in
     let x = c.divide_digit-upper.result in
     let y = c.divide_digit-lower.result in
-    let e = rw (u.part, u.whole, c.from.ensures, c.from-2.ensures, u.part) at c.divide_digit-upper.ensures in
-    let f = rw (u.part, u.whole) at c.divide_digit-lower.ensures in
+    let e = rw (u.whole, c.from.ensures, c.from-2.ensures, u.part) at c.divide_digit-upper.ensures in
+    let f = rw (u.whole, c.from.ensures, c.from-2.ensures, u.part) at c.divide_digit-lower.ensures in
     record {
       whole = two_digits n w x.quotient x.remainder y.quotient y.remainder e.0 f.0;
       less = f.1;
